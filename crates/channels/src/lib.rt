@@ -1,0 +1,165 @@
+// Channels of a texel, from the helpers of pixel_convert.rs and convert.rs of athei/mtld3d (an altered version, see NOTICE).
+// A channel of 4, 5 or 6 bits, or of one, becomes a byte by repeating its bits, and a byte becomes such a channel by dropping
+// its low bits. Other codes are the nearest ones, luminance is a weighted mean, and a binary32 channel is worked out from its
+// bits. specs/ has each as a law over the width, the maximum or the number, with its error: Expansion, Nearest, Luminance,
+// Floats, Exact.
+ghost use mathlib.Core.Path.{_≡_};
+ghost use Prim.Native.Nat.{_*_, _≤_, _<_, _%_, _^_};
+ghost use lib.Ieee.{binary32, ofBits};
+ghost use Rattle.channels.specs.Expansion.{expanded, truncated};
+ghost use Rattle.channels.specs.Nearest.{rounded, Nearest, NearestUp};
+ghost use Rattle.channels.specs.Luminance.{luminanceOf};
+ghost use Rattle.channels.specs.Floats.{clamped};
+
+// The lowest bit of a word as a byte: 0 or 255.
+pub fn expand1(v: u16) -> u8
+    ensures { λ r. ⌜ r ≡ expanded 1 (v % 2) ⌝ }
+{
+    if v & 1 == 0 { 0 } else { 0xff }
+}
+
+// The four low bits of a word as a byte: the bits, and again.
+pub fn expand4(v: u16) -> u8
+    ensures { λ r. ⌜ r ≡ expanded 4 (v % 16) ⌝ }
+{
+    let k = (v & 0xf) as u8;
+    (k << 4) | k
+}
+
+// The five low bits of a word as a byte: the bits, and the top ones again.
+pub fn expand5(v: u16) -> u8
+    ensures { λ r. ⌜ r ≡ expanded 5 (v % 32) ⌝ }
+{
+    let k = (v & 0x1f) as u8;
+    (k << 3) | (k >> 2)
+}
+
+// The six low bits of a word as a byte: the bits, and the top ones again.
+pub fn expand6(v: u16) -> u8
+    ensures { λ r. ⌜ r ≡ expanded 6 (v % 64) ⌝ }
+{
+    let k = (v & 0x3f) as u8;
+    (k << 2) | (k >> 4)
+}
+
+// A byte as one bit: whether it is 128 or more.
+pub fn truncate1(v: u8) -> u16
+    ensures { λ r. ⌜ r ≡ truncated 1 v ⌝ }
+{
+    if v >= 128 { 1 } else { 0 }
+}
+
+// The four top bits of a byte.
+pub fn truncate4(v: u8) -> u16
+    ensures { λ r. ⌜ r ≡ truncated 4 v ⌝ }
+{
+    (v >> 4) as u16
+}
+
+// The five top bits of a byte.
+pub fn truncate5(v: u8) -> u16
+    ensures { λ r. ⌜ r ≡ truncated 5 v ⌝ }
+{
+    (v >> 3) as u16
+}
+
+// The six top bits of a byte.
+pub fn truncate6(v: u8) -> u16
+    ensures { λ r. ⌜ r ≡ truncated 6 v ⌝ }
+{
+    (v >> 2) as u16
+}
+
+// The luminance of a colour.
+pub fn luminance(r: u8, g: u8, b: u8) -> u8
+    ensures { λ l. ⌜ l ≡ luminanceOf r g b ⌝ }
+{
+    ((2125 * (r as u32) + 7154 * (g as u32) + 721 * (b as u32) + 5000) / 10000) as u8
+}
+
+// The code nearest to a byte on a scale whose top code is max. 255 is odd, so there is no tie.
+pub fn unorm8_to_nearest_code(channel: u8, max: u32) -> u32
+    requires { ⌜ max ≤ 65535 ⌝ }
+    ensures is { λ r. ⌜ r ≡ rounded (channel * max) 255 ⌝ }
+    ensures nearest { λ r. ⌜ Nearest (channel * max) 255 r ⌝ }
+{
+    ((channel as u32) * max + 127) / 255
+}
+
+// A byte as the nearest two-bit code.
+pub fn unorm8_to_unorm2(channel: u8) -> u32
+    ensures is { λ r. ⌜ r ≡ rounded (channel * 3) 255 ⌝ }
+    ensures nearest { λ r. ⌜ Nearest (channel * 3) 255 r ⌝ }
+{
+    unorm8_to_nearest_code(channel, 3)
+}
+
+// A byte as the nearest ten-bit code.
+pub fn unorm8_to_unorm10(channel: u8) -> u32
+    ensures is { λ r. ⌜ r ≡ rounded (channel * 1023) 255 ⌝ }
+    ensures nearest { λ r. ⌜ Nearest (channel * 1023) 255 r ⌝ }
+{
+    unorm8_to_nearest_code(channel, 1023)
+}
+
+// A byte as the nearest signed code of eight bits that is not negative.
+pub fn unorm8_to_snorm8(channel: u8) -> u8
+    ensures is { λ r. ⌜ r ≡ rounded (channel * 127) 255 ⌝ }
+    ensures nearest { λ r. ⌜ Nearest (channel * 127) 255 r ⌝ }
+{
+    unorm8_to_nearest_code(channel, 127) as u8
+}
+
+// A byte as the nearest signed code of sixteen bits that is not negative.
+pub fn unorm8_to_snorm16(channel: u8) -> u16
+    ensures is { λ r. ⌜ r ≡ rounded (channel * 32767) 255 ⌝ }
+    ensures nearest { λ r. ⌜ Nearest (channel * 32767) 255 r ⌝ }
+{
+    unorm8_to_nearest_code(channel, 32767) as u16
+}
+
+// A byte as a sixteen-bit code: the byte twice, which is exact.
+pub fn unorm8_to_unorm16(channel: u8) -> u16
+    ensures { λ r. ⌜ r ≡ channel * 257 ⌝ }
+{
+    (channel as u16) * 257
+}
+
+// A sixteen-bit code as the nearest byte. 257 is odd, so there is no tie.
+pub fn unorm16_to_unorm8(v: u16) -> u8
+    ensures is { λ r. ⌜ r ≡ rounded v 257 ⌝ }
+    ensures nearest { λ r. ⌜ Nearest v 257 r ⌝ }
+{
+    (((v as u32) + 128) / 257) as u8
+}
+
+// n / 2^s to the nearest whole number, a half up.
+fn nearest_shifted(n: u64, s: u32) -> u64
+    requires { ⌜ (n < 4611686018427387904) × (s < 62) ⌝ }
+    ensures { λ r. ⌜ r ≡ rounded n (2 ^ s) ⌝ }
+{
+    (n * 2 + (1u64 << s)) >> (s + 1)
+}
+
+// A binary32 channel, given by its bits, as the nearest byte, a half up. What is negative and a NaN is 0, and what is one or
+// above, the infinity too, is 255.
+pub fn f32_to_unorm8(bits: u32) -> u8
+    ensures is { λ r. ⌜ r ≡ rounded (255 * clamped (ofBits binary32 bits) .top) (clamped (ofBits binary32 bits) .bottom) ⌝ }
+    ensures nearest { λ r. ⌜ NearestUp (255 * clamped (ofBits binary32 bits) .top) (clamped (ofBits binary32 bits) .bottom) r ⌝ }
+{
+    if bits >= 0x8000_0000 {
+        return 0;
+    }
+    if bits > 0x7f80_0000 {
+        return 0;
+    }
+    if bits >= 0x3f80_0000 {
+        return 255;
+    }
+    // Below 2^-9: less than half a step.
+    if bits < 0x3b00_0000 {
+        return 0;
+    }
+    let significand = 8388608 + (bits % 8388608) as u64;
+    nearest_shifted(255 * significand, 150 - bits / 8388608) as u8
+}

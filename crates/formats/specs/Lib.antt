@@ -1,0 +1,7 @@
+-- What the contracts cite, and laws that other crates cite.
+pub mod Codes
+pub mod Lanes
+pub mod Table
+pub mod Classes
+pub mod Packing
+pub mod Numbers

@@ -1,0 +1,8 @@
+pub mod Little
+pub mod Tests
+pub mod Iterate
+pub mod Slices
+pub mod Integers
+pub mod Machine
+pub mod Ranges
+pub mod Computed

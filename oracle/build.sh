@@ -1,0 +1,121 @@
+#!/usr/bin/env bash
+# Builds the original Rust, unchanged, as the library `original`, and this folder's programs over it, in oracle/build/.
+# The source is the folder ORACLE_SRC, else ../shared/docs/src beside the repository's root; its files lie below
+# windows/core/src. Where there is none, one line says so and the exit status is 3. What is newer than all that it
+# is made from is left as it is. With --where, only prints the source folder.
+set -euo pipefail
+
+here=$(cd "$(dirname "${BASH_SOURCE[0]}")" && pwd)
+script=$here/build.sh
+build=$here/build
+source=${ORACLE_SRC:-$(dirname "$(dirname "$here")")/shared/docs/src}
+
+# Modules taken whole, and modules of which items are cut out because the rest leans on what is not at hand.
+whole=(pixel_convert planar_yuv depth_texture)
+parts=(caps format convert stretch_rect)
+
+if [[ ! -d $source/windows/core/src ]]; then
+    echo "oracle: the original is absent: no windows/core/src in $source (ORACLE_SRC names another folder)" >&2
+    exit 3
+fi
+source=$(cd "$source" && pwd)
+core=$source/windows/core/src
+if [[ ${1:-} == --where ]]; then
+    echo "$source"
+    exit
+fi
+
+fail() {
+    echo "oracle: $1" >&2
+    exit 1
+}
+
+command -v rustc >/dev/null || fail 'rustc is not on PATH'
+for name in "${whole[@]}" "${parts[@]}"; do
+    [[ -f $core/$name.rs ]] || fail "the original lacks $core/$name.rs"
+done
+
+# Overflow checks are off, as in a release build. The sums of u32 texel coordinates in `convert_region` then wrap,
+# where document 01 refuses the texel: for such a region the document answers and not the original. A second build
+# with the checks on would turn each of these into a panic and so find them; it is not needed as long as the
+# comparisons decide them by the document's own rule.
+flags=(--edition 2024 -C opt-level=3 -C codegen-units=1 -C debug-assertions=off -C overflow-checks=off)
+
+# Nothing made from another folder or by another compiler is kept.
+origin="$source, $(rustc --version)"
+if [[ ! -f $build/origin || $(<"$build/origin") != "$origin" ]]; then
+    rm -rf "$build"
+    mkdir -p "$build"
+    echo "$origin" >"$build/origin"
+fi
+mkdir -p "$build/items" "$build/unfinished"
+
+# made OUT IN..: OUT is newer than this script and every IN.
+made() {
+    local out=$1 in
+    for in in "$script" "${@:2}"; do
+        [[ $out -nt $in ]] || return 1
+    done
+}
+
+# compile OUT MAIN [WORDS..]: OUT appears only when it is whole.
+compile() {
+    local name=${1##*/}
+    echo "oracle: building $name"
+    rustc "${flags[@]}" "${@:3}" -o "$build/unfinished/$name" "$2"
+    mv -f "$build/unfinished/$name" "$1"
+}
+
+# cut_items NAME HEAD ITEM..: the items of the original's NAME.rs, below the line HEAD.
+cut_items() {
+    local name=$1 head=$2
+    if made "$build/items/$name.rs" "$build/cut" "$core/$name.rs"; then return; fi
+    {
+        echo "$head"
+        "$build/cut" "$core/$name.rs" "${@:3}"
+    } >"$build/unfinished/$name.rs"
+    mv -f "$build/unfinished/$name.rs" "$build/items/$name.rs"
+}
+
+if ! made "$build/cut" "$here/cut.rs"; then
+    compile "$build/cut" "$here/cut.rs"
+fi
+
+cut_items caps '' MAX_TEXTURE_DIM
+cut_items format '' linear_row_pitch
+cut_items convert 'use mtld3d_types::*;' \
+    d3dcolor_to_rgba_f32 splat_pixel_pattern d3dcolor_fill_pixel_bytes d3dcolor_luminance unorm8_to_nearest_code \
+    pack_a2_rgb10 unorm8_to_snorm8 unorm8_to_snorm16 unorm8_to_unorm16 f32_to_f16_bits narrow_f16
+cut_items stretch_rect 'use crate::planar_yuv::planar_yuv_layout_from_pitch; use mtld3d_types::*;' \
+    is_packed_yuv is_planar_yuv yuv_to_rgb8 decode_packed_yuv decode_planar_yuv
+
+externs=(-L "dependency=$build")
+for name in mtld3d_types mtld3d_shared; do
+    if ! made "$build/lib$name.rlib" "$here/stand_ins/$name.rs"; then
+        compile "$build/lib$name.rlib" "$here/stand_ins/$name.rs" --crate-type rlib
+    fi
+    externs+=(--extern "$name=$build/lib$name.rlib")
+done
+
+files=("${parts[@]/#/$build/items/}" "${whole[@]/#/$core/}")
+files=("${files[@]/%/.rs}")
+root=$build/original.rs
+if ! made "$root"; then
+    {
+        # A format code that the stand-in lacks would become a pattern that matches all: these lints refuse it.
+        echo '#![deny(unreachable_patterns, unused_variables)]'
+        for file in "${files[@]}"; do
+            printf '#[path = r"%s"]\npub mod %s;\n' "$file" "$(basename "$file" .rs)"
+        done
+    } >"$root"
+fi
+if ! made "$build/liboriginal.rlib" "$root" "$build"/libmtld3d_{types,shared}.rlib "${files[@]}"; then
+    compile "$build/liboriginal.rlib" "$root" --crate-type rlib "${externs[@]}"
+fi
+externs+=(--extern "original=$build/liboriginal.rlib")
+
+for name in worked_table record bench; do
+    if ! made "$build/$name" "$here/$name.rs" "$here/common.rs" "$build/liboriginal.rlib"; then
+        compile "$build/$name" "$here/$name.rs" "${externs[@]}"
+    fi
+done
