@@ -1,5 +1,5 @@
-//! Shared by the programs of this folder, each of which uses a part: the random numbers, regions
-//! that cover a whole frame, conversions of one texel by the original, frames of random texels.
+//! Shared by the programs of this folder, each of which uses a part: the random numbers, regions,
+//! conversions of one texel by the original, frames of random texels.
 #![allow(dead_code)]
 
 use original::pixel_convert::{ConvertRegion, convert_region};
@@ -8,11 +8,21 @@ use original::pixel_convert::{ConvertRegion, convert_region};
 pub struct XorShift(u64);
 
 impl XorShift {
-    /// Where every program starts, so that each run sees the same numbers.
+    /// Where every program starts unless told otherwise, so that each run sees the same numbers.
     pub const SEED: u64 = 0x2545_f491_4f6c_dd1d;
 
     pub const fn seeded() -> Self {
         Self(Self::SEED)
+    }
+
+    /// The generator of `seed`, whose bits are mixed first (splitmix64): near seeds give unlike
+    /// numbers.
+    pub const fn from_seed(seed: u64) -> Self {
+        let mut bits = seed.wrapping_add(0x9e37_79b9_7f4a_7c15);
+        bits = (bits ^ bits >> 30).wrapping_mul(0xbf58_476d_1ce4_e5b9);
+        bits = (bits ^ bits >> 27).wrapping_mul(0x94d0_49bb_1331_11eb);
+        bits ^= bits >> 31;
+        Self(if bits == 0 { Self::SEED } else { bits })
     }
 
     pub const fn next_u64(&mut self) -> u64 {
@@ -31,18 +41,61 @@ impl XorShift {
     pub const fn next_unit(&mut self) -> f32 {
         (self.next_u32() >> 8) as f32 / 16_777_216.0
     }
+
+    /// A number from 0 up to, not including, `bound`.
+    pub const fn below(&mut self, bound: u64) -> u64 {
+        (self.next_u64() as u128 * bound as u128 >> 64) as u64
+    }
+
+    /// True once in `times` draws.
+    pub const fn one_in(&mut self, times: u64) -> bool {
+        self.below(times) == 0
+    }
+
+    pub fn pick<T: Copy>(&mut self, from: &[T]) -> T {
+        from[self.below(from.len() as u64) as usize]
+    }
+}
+
+/// A region to convert, with the original's fields.
+#[derive(Clone, Copy, Debug)]
+pub struct Region {
+    pub src_x: u32,
+    pub src_y: u32,
+    pub dst_x: u32,
+    pub dst_y: u32,
+    pub width: u32,
+    pub height: u32,
+    pub src_pitch: usize,
+    pub dst_pitch: usize,
+    pub src_slice_pitch: usize,
+    pub dst_slice_pitch: usize,
+    pub depth: usize,
+}
+
+impl From<&Region> for ConvertRegion {
+    fn from(region: &Region) -> Self {
+        Self {
+            src_x: region.src_x,
+            src_y: region.src_y,
+            dst_x: region.dst_x,
+            dst_y: region.dst_y,
+            width: region.width,
+            height: region.height,
+            src_pitch: region.src_pitch,
+            dst_pitch: region.dst_pitch,
+            src_slice_pitch: region.src_slice_pitch,
+            dst_slice_pitch: region.dst_slice_pitch,
+            depth: region.depth,
+        }
+    }
 }
 
 /// The region that covers `width` by `height` texels from the first byte of either buffer.
 ///
 /// Its source slice is `height` rows, which for a planar source is the number of luma rows.
-pub const fn whole_frame(
-    width: u32,
-    height: u32,
-    src_pitch: usize,
-    dst_pitch: usize,
-) -> ConvertRegion {
-    ConvertRegion {
+pub const fn whole_frame(width: u32, height: u32, src_pitch: usize, dst_pitch: usize) -> Region {
+    Region {
         src_x: 0,
         src_y: 0,
         dst_x: 0,
@@ -64,16 +117,17 @@ pub fn convert_texel<const N: usize>(
     src_format: u32,
 ) -> Option<[u8; N]> {
     let mut dst = [0; N];
-    let region = whole_frame(1, 1, src.len(), N);
+    let region = ConvertRegion::from(&whole_frame(1, 1, src.len(), N));
     convert_region(&mut dst, dst_format, src, src_format, &region).then_some(dst)
 }
 
-/// `length` random bytes, a multiple of 8.
+/// `length` random bytes.
 pub fn random_bytes(random: &mut XorShift, length: usize) -> Vec<u8> {
-    assert!(length.is_multiple_of(8));
-    (0..length / 8)
-        .flat_map(|_| random.next_u64().to_le_bytes())
-        .collect()
+    let mut bytes = vec![0; length];
+    for chunk in bytes.chunks_mut(8) {
+        chunk.copy_from_slice(&random.next_u64().to_le_bytes()[..chunk.len()]);
+    }
+    bytes
 }
 
 /// The bytes of `count` random binary32 numbers from 0 to 1.

@@ -27,8 +27,11 @@ unfoldable pub isPlanarYuv : ℕ → Bool
 isPlanarYuv f = listed f (NV12 ∷ YV12 ∷ [])
 
 -- four channels of 16 bits, or of binary32
+abbrev pub wideFormats : List ℕ
+wideFormats = A16B16G16R16 ∷ A32B32G32R32F ∷ []
+
 unfoldable pub isWideRgba : ℕ → Bool
-isWideRgba f = listed f (A16B16G16R16 ∷ A32B32G32R32F ∷ [])
+isWideRgba f = listed f wideFormats
 
 -- the width raised to a multiple of 4: the pitch of a row of texels of one byte
 unfoldable pub linearRowPitch : ℕ → ℕ

@@ -1,0 +1,82 @@
+-- `pixel_convert::convert_slice` meets its contract: row by row. Assumes nothing.
+use mathlib.Core.Path.{_≡_, refl, sym, ap, _∙_, subst}
+use mathlib.Core.List.{List}
+use Prim.Native.Nat.{ℕ, _+_, _-_, _≤_, _<_}
+use native.Mathlib.Nat.{le-antisymm}
+use native.Mathlib.Omega.{arith}
+use lib.ListN.{length}
+use denote.Ref.{now}
+use Rattle.words.specs.Iterate.{iterate, iterate-zero, iterate-step}
+use Rattle.pixel_convert.specs.Regions.{rowWritten, sliceWritten}
+use Rattle.pixel_convert.specs.Rows.{RowFits}
+use borrow.Author.Needs.{needs}
+use Rattle.pixel_convert.proofs.convert_slice.Statement.{statement}
+use Rattle.pixel_convert.proofs.convert_slice.Tie as tie
+
+abbrev Inv-loop : tie.InvT-loop
+Inv-loop dst₀ dst-format src src-format region z height row₀ dst row =
+    (dst ≡ iterate (rowWritten src src-format dst-format region z) row dst₀) × (length dst ≡ length dst₀) × (row ≤ height)
+
+abbrev μ-loop : tie.MeasureT-loop
+μ-loop dst₀ dst-format src src-format region z height row₀ dst row = height - row
+
+abbrev In : Type 0
+In = tie.In-loop Inv-loop μ-loop
+
+abbrev start : In → tie.Start Inv-loop μ-loop
+start c = c .before .before .before .before .before
+
+cast-height : tie.Need-cast-height Inv-loop μ-loop
+cast-height c = search needs
+
+loop-holds : tie.Need-loop-holds Inv-loop μ-loop
+loop-holds c = (sym (iterate-zero _ _), refl, search needs)
+
+convert-row-requires : tie.Need-convert-row-requires Inv-loop μ-loop
+convert-row-requires c κs =
+    let i = c .before in
+    let g = start i .args in
+    subst (λ (m : ℕ). RowFits (length (now (g .src))) m (g .src-format) (g .dst-format) (g .region) (g .z) (i .before .loop .row)) (sym (i .before .loop .inv .1))
+    (start i .pre (i .before .loop .row) (i .loop-test .taken))
+
+add-row : tie.Need-add-row Inv-loop μ-loop
+add-row c =
+    let i = c .before .before .before .before in
+    omega (arith, start i .pre (i .before .loop .row) (i .loop-test .taken) .rows)
+
+loop-less : tie.Need-loop-less Inv-loop μ-loop
+loop-less c = search needs
+
+loop-again : tie.Need-loop-again Inv-loop μ-loop
+loop-again c =
+    let i = c .before .before .before .before in
+    let g = start i .args in
+    let call = c .before .before .convert-row in (
+      iterate-step (rowWritten (now (g .src)) (g .src-format) (g .dst-format) (g .region) (g .z)) (i .before .loop .row) (now (g .dst)) (i .before .loop .dst) _ (i .before .loop .inv .0) (call .ensures),
+      call .kept .0 ∙ i .before .loop .inv .1,
+      omega (arith, i .loop-test .taken),
+    )
+
+same-length : tie.Need-same-length Inv-loop μ-loop
+same-length c = search needs
+
+returns : tie.Need-returns Inv-loop μ-loop
+unfolding sliceWritten
+returns c =
+    let past = le-antisymm (c .before .loop .inv .2) (c .loop-test .left) in
+    c .before .loop .inv .0 ∙ rw past refl
+
+pub convert-slice-spec : {M : Type 1} → statement M
+convert-slice-spec =
+    tie.close
+    (tie.spec
+    Inv-loop
+    μ-loop
+    cast-height
+    loop-holds
+    convert-row-requires
+    add-row
+    loop-less
+    loop-again
+    same-length
+    returns)

@@ -1,0 +1,122 @@
+-- The places of a planar texel, step by step: is there a layout, has it the texel, are luma, U and V within a length. Assumes nothing.
+use mathlib.Core.Path.{_≡_, refl, sym, ap, _∙_, subst}
+use mathlib.Core.Bool.{Bool, true, false, _&&_, false≢true}
+use mathlib.Core.List.{List, [], _∷_}
+use Prim.Native.Nat.{ℕ, _+_, _*_, _/_, _%_, _≤_, _<_}
+use native.Mathlib.Omega.{arith}
+use native.Mathlib.Nat.{mul-le-mul}
+use lib.Dec.{ltb, eqb}
+use lib.ListN.{length, getD}
+use borrow.Author.Tests.{eq-eqb, ne-eqb, ltb-true, lt-ltb, le-ltb}
+use Rattle.words.specs.Tests.{pick, and-left, and-right, and-out}
+use Rattle.formats.specs.Codes.{YV12, NV12}
+use Rattle.formats.specs.Classes.{maxTextureDim}
+use Rattle.planar_yuv.specs.declared.PlanarYuvLayout.{PlanarYuvLayout}
+use Rattle.planar_yuv.specs.declared.PlanarYuvAnswer.{PlanarYuvAnswer}
+use Rattle.planar_yuv.specs.declared.PlanarYuvAnswer.the-variants.{Layout, Refused}
+use Rattle.planar_yuv.specs.Rules.{allowed, Allowed, allowed-yes, allowed-no, chromaRows, totalBytes}
+use Rattle.planar_yuv.specs.Offsets.{contains, Inside, contains-is, contains-yes, lumaOffset, uOffset, vOffset, nv12U, nv12V, yv12U, yv12V}
+use Rattle.planar_yuv.specs.Apart.{planes}
+use Rattle.planar_yuv.specs.Answers.{replyOf, fromPitch, Legal, TexelOf, Answered, answered, refused, legal}
+use Rattle.stretch_rect.specs.Samples.{Readable}
+use Rattle.pixel_convert.specs.Places.{Places, absent, offsets, layoutPlaces, planarPlaces, placesIn, bytesAt, allBelow}
+
+-- ---- U and V by the format
+module _ (f pitch rows x y : ℕ) where
+  pub u-yv12 : f ≡ YV12 → yv12U pitch rows x y ≡ uOffset f pitch rows x y
+  unfolding uOffset
+  u-yv12 e = rw (eq-eqb f YV12 e) refl
+
+  pub u-nv12 : (f ≡ YV12 → ⊥) → nv12U pitch rows x y ≡ uOffset f pitch rows x y
+  unfolding uOffset
+  u-nv12 n = rw (ne-eqb f YV12 n) refl
+
+  pub v-yv12 : f ≡ YV12 → yv12V pitch rows x y ≡ vOffset f pitch rows x y
+  unfolding vOffset
+  v-yv12 e = rw (eq-eqb f YV12 e) refl
+
+  pub v-nv12 : (f ≡ YV12 → ⊥) → nv12U pitch rows x y + 1 ≡ vOffset f pitch rows x y
+  unfolding vOffset nv12V
+  v-nv12 n = rw (ne-eqb f YV12 n) refl
+
+-- the byte after a U of NV12 is one of the frame
+pub nv12-small : (l : PlanarYuvLayout) (x y : ℕ) → TexelOf l x y → nv12U (l .pitch) (l .«luma_rows») x y + 1 < 268435457
+unfolding vOffset nv12V
+nv12-small l x y t =
+    let g = t .legal .rules in
+    let v = planes (l .pitch) (l .«luma_rows») (g .pitch-even) NV12 .v-inside x y (t .column, t .row) in
+    let m = mul-le-mul (g .pitch-most) (g .together) in
+    omega (arith, v, m)
+
+-- ---- a layout's texel
+module _ (len f pitch rows y x : ℕ) where
+  pub has-not : contains pitch rows x y ≡ false → false ≡ placesIn len (layoutPlaces f pitch rows y x)
+  unfolding placesIn
+  has-not e = rw e refl
+
+  pub has-no-luma : contains pitch rows x y ≡ true → len ≤ lumaOffset pitch x y → false ≡ placesIn len (layoutPlaces f pitch rows y x)
+  unfolding placesIn
+  has-no-luma e h = rw (e, le-ltb (lumaOffset pitch x y) len h) refl
+
+  pub has-no-u : contains pitch rows x y ≡ true → lumaOffset pitch x y < len → len ≤ uOffset f pitch rows x y → false ≡ placesIn len (layoutPlaces f pitch rows y x)
+  unfolding placesIn
+  has-no-u e h k = rw (e, lt-ltb (lumaOffset pitch x y) len h, le-ltb (uOffset f pitch rows x y) len k) refl
+
+  pub has-v : contains pitch rows x y ≡ true → lumaOffset pitch x y < len → uOffset f pitch rows x y < len
+      → ltb (vOffset f pitch rows x y) len ≡ placesIn len (layoutPlaces f pitch rows y x)
+  unfolding placesIn
+  has-v e h k = rw (e, lt-ltb (lumaOffset pitch x y) len h, lt-ltb (uOffset f pitch rows x y) len k) (last (ltb (vOffset f pitch rows x y) len))
+    where
+      last : (t : Bool) → t ≡ (t && true)
+      last true = refl
+      last false = refl
+
+-- the texel of a layout whose bytes lie within a frame
+pub readable : (f : ℕ) (frame : List ℕ) (l : PlanarYuvLayout) (y x : ℕ) → Legal l → placesIn (length frame) (layoutPlaces f (l .pitch) (l .«luma_rows») y x) ≡ true
+    → Readable f frame l x y
+unfolding placesIn
+readable f frame l y x g h = go (contains (l .pitch) (l .«luma_rows») x y) refl h
+  where
+    lo : ℕ
+    lo = lumaOffset (l .pitch) x y
+
+    uo : ℕ
+    uo = uOffset f (l .pitch) (l .«luma_rows») x y
+
+    vo : ℕ
+    vo = vOffset f (l .pitch) (l .«luma_rows») x y
+
+    go : (t : Bool) → contains (l .pitch) (l .«luma_rows») x y ≡ t → placesIn (length frame) (pick t (offsets (lo ∷ uo ∷ vo ∷ [])) absent) ≡ true → Readable f frame l x y
+    go true e k =
+        let i = contains-is (l .pitch) (l .«luma_rows») x y e in
+        let n = length frame in
+        let rest = and-right (ltb lo n) (ltb uo n && (ltb vo n && true)) k in
+        record {
+          texel = record { legal = g; column = i .0; row = i .1 };
+          luma-read = ltb-true lo n (and-left (ltb lo n) (ltb uo n && (ltb vo n && true)) k);
+          u-read = ltb-true uo n (and-left (ltb uo n) (ltb vo n && true) rest);
+          v-read = ltb-true vo n (and-left (ltb vo n) true (and-right (ltb uo n) (ltb vo n && true) rest));
+        }
+    go false e k = absurd (false≢true k)
+
+-- ---- whether there is a layout
+module _ (len f pitch rows y x : ℕ) where
+  pub no-pitch : pitch ≡ 0 → planarPlaces f pitch rows y x ≡ absent
+  no-pitch e = ap (λ t. pick t (layoutPlaces f pitch rows y x) absent) (allowed-no (λ a. omega (arith, a .pitch-some)))
+
+  pub no-layout : replyOf Refused ≡ fromPitch f pitch rows → planarPlaces f pitch rows y x ≡ absent
+  no-layout e = ap (λ t. pick t (layoutPlaces f pitch rows y x) absent) (refused f pitch rows e)
+
+  pub in-layout : (l : PlanarYuvLayout) → replyOf (Layout l) ≡ fromPitch f pitch rows
+      → planarPlaces f pitch rows y x ≡ layoutPlaces f (l .pitch) (l .«luma_rows») y x
+  in-layout l e =
+      let a = answered f pitch rows l e in
+      ap (λ t. pick t (layoutPlaces f pitch rows y x) absent) (allowed-yes (a .rules))
+      ∙ rw (a .pitch-is, a .rows-are) refl
+
+  pub layout-legal : (l : PlanarYuvLayout) → replyOf (Layout l) ≡ fromPitch f pitch rows → Legal l
+  layout-legal l e = legal (answered f pitch rows l e)
+
+pub absent-out : (len : ℕ) (p : Places) → p ≡ absent → false ≡ placesIn len p
+unfolding placesIn
+absent-out len p e = sym (ap (placesIn len) e)

@@ -1,0 +1,172 @@
+-- Near and kept hold of every conversion. Assumes nothing.
+use mathlib.Core.Path.{_≡_, refl, sym, ap, _∙_, subst}
+use mathlib.Core.Bool.{Bool, true, false, not, _&&_, _||_, false≢true}
+use mathlib.Core.List.{List, [], _∷_}
+use Prim.Native.Nat.{ℕ, zero, suc, _+_, _*_, _-_, _%_, _≤_, _<_, min}
+use native.Mathlib.Omega.{arith}
+use lib.IntN.{ℤ, pos, negsuc}
+use lib.Dec.{T, eqb, leb, ltb, ltb→lt}
+use lib.ListN.{length, getD, take, drop}
+use borrow.Author.Tests.{leb-true, eqb-true, ne-eqb}
+use Rattle.words.specs.Little.{number}
+use Rattle.words.specs.Tests.{pick}
+use Rattle.words.specs.Computed.{both, both-left, both-right}
+use Rattle.formats.specs.Codes.{A8R8G8B8}
+use Rattle.formats.specs.Lanes.{Channel}
+use Rattle.formats.specs.Table.{laneOf, partsOf, bytesOf}
+use Rattle.formats.specs.Classes.{rgbFormats, isConvertibleRgb, isPackedYuv, isPlanarYuv, isWideRgba}
+use Rattle.channels.specs.Fractions.{_over_, Near, whole-near}
+use Rattle.stretch_rect.specs.Yuv.{bt601, rgbOf, redRounded, greenRounded, blueRounded, decimalUnit, redDecimal, greenDecimal, blueDecimal}
+use Rattle.stretch_rect.specs.Exact.{RgbStands, bt601-stands}
+use Rattle.words.specs.Integers.{clampTo}
+use Rattle.pixel_convert.specs.declared.Texel.{Texel}
+use Rattle.pixel_convert.specs.declared.ConvertRegion.{ConvertRegion}
+use Rattle.pixel_convert.specs.declared.ConvertReply.{ConvertReply}
+use Rattle.pixel_convert.specs.declared.ConvertReply.the-variants.{Accepted, Unsupported, PlanarShape, SourceOutside, DestinationOutside}
+use Rattle.pixel_convert.specs.Texels.{decodedOf, exactOf, encodedBytes, valueOf, Stands, isColour, Holds}
+use Rattle.pixel_convert.specs.Bounds.{listed-at, decoded-stands, near-bytes}
+use Rattle.pixel_convert.specs.Places.{Places, absent, offsets, run, texelStart, placesAt, bytesFrom, bytesAt, placesIn}
+use Rattle.pixel_convert.specs.Inside.{inside-at, texel-fits, lane-places, run-in}
+use Rattle.pixel_convert.specs.Regions.{canConvert, canConvertUpdate, isYuv, lumaOf, uOf, vOf, opaqueOf, texelOf, yuvValues, valuesOf, texelAt, exactAt, badPlanarShape, isEmpty, sourceInside, destinationInside, replyTo, toAt, sourceTexel, sourceValues, regionWritten, ifAccepted, convertedBytes, InRegion, ByteOf, Disjoint, NearSource, OthersKept}
+use Rattle.pixel_convert.specs.Own.{region-other, region-own}
+
+-- ---- RGB formats: their texels have bytes, and are no YUV
+pub rgb-some : (f : ℕ) → isConvertibleRgb f ≡ true → 0 < bytesOf f
+unfolding isConvertibleRgb bytesOf partsOf
+rgb-some f h = ltb→lt 0 (bytesOf f) (listed-at (λ g. ltb 0 (bytesOf g)) rgbFormats tt f h)
+
+is-false : (b : Bool) → T (not b) → b ≡ false
+is-false true t = absurd t
+is-false false t = refl
+
+pub rgb-not-planar : (f : ℕ) → isConvertibleRgb f ≡ true → isPlanarYuv f ≡ false
+unfolding isConvertibleRgb isPlanarYuv
+rgb-not-planar f h = is-false (isPlanarYuv f) (listed-at (λ g. not (isPlanarYuv g)) rgbFormats tt f h)
+
+pub rgb-not-packed : (f : ℕ) → isConvertibleRgb f ≡ true → isPackedYuv f ≡ false
+unfolding isConvertibleRgb isPackedYuv
+rgb-not-packed f h = is-false (isPackedYuv f) (listed-at (λ g. not (isPackedYuv g)) rgbFormats tt f h)
+
+-- ---- the destination of a pair that converts is one
+pub convert-rgb : (s d : ℕ) → canConvert s d ≡ true → isConvertibleRgb d ≡ true
+unfolding canConvert canConvertUpdate isConvertibleRgb
+convert-rgb s d h = go (isConvertibleRgb s || isPackedYuv s) (isConvertibleRgb d) (eqb d A8R8G8B8) (isWideRgba s) (isPlanarYuv s) refl refl h
+  where
+    go : (a b c w p : Bool) → isConvertibleRgb d ≡ b → eqb d A8R8G8B8 ≡ c → ((a && b) || (c && w) || (p && b)) ≡ true → isConvertibleRgb d ≡ true
+    go a true c w p e f k = e
+    go a false true w p e f k = ap isConvertibleRgb (eqb-true d A8R8G8B8 f)
+    go true false false w true e f k = absurd (false≢true k)
+    go true false false w false e f k = absurd (false≢true k)
+    go false false false w true e f k = absurd (false≢true k)
+    go false false false w false e f k = absurd (false≢true k)
+
+-- ---- what an accepted region that has a texel passed
+pub record Passed (s d : ℕ) (r : ConvertRegion) (n m : ℕ) : Type 0 where
+  pub pair : canConvert s d ≡ true
+  pub shape : badPlanarShape s r ≡ false
+  pub source : sourceInside n s r ≡ true
+  pub destination : destinationInside m d r ≡ true
+
+pub not-empty : (r : ConvertRegion) (z row col : ℕ) → InRegion r z row col → isEmpty r ≡ false
+unfolding isEmpty
+not-empty r z row col t =
+    rw (ne-eqb (r .width) 0 (λ e. omega (arith, t .column)), ne-eqb (r .height) 0 (λ e. omega (arith, t .line)), ne-eqb (r .depth) 0 (λ e. omega (arith, t .slice))) refl
+
+pub passed : (s d : ℕ) (r : ConvertRegion) (n m : ℕ) → isEmpty r ≡ false → replyTo s d r n m ≡ Accepted → Passed s d r n m
+unfolding replyTo
+passed s d r n m ne h = go (canConvert s d) (badPlanarShape s r) (isEmpty r) (sourceInside n s r) (destinationInside m d r) refl refl ne refl refl h
+  where
+    clash : (a b : ℕ) → a ≡ b → a < b → Passed s d r n m
+    clash a b e l = absurd (omega arith)
+
+    go : (c p e si di : Bool) → canConvert s d ≡ c → badPlanarShape s r ≡ p → e ≡ false → sourceInside n s r ≡ si → destinationInside m d r ≡ di
+        → pick (not c) Unsupported (pick p PlanarShape (pick e Accepted (pick (not si) SourceOutside (pick (not di) DestinationOutside Accepted)))) ≡ Accepted → Passed s d r n m
+    go true false false true true a b f g i k = record { pair = a; shape = b; source = g; destination = i }
+    go true false false true false a b f g i k = let x : _≡_ {A = ℕ} 0 1 = cc in clash 0 1 x (omega arith)
+    go true false false false di a b f g i k = let x : _≡_ {A = ℕ} 0 1 = cc in clash 0 1 x (omega arith)
+    go true false true si di a b f g i k = absurd (false≢true (sym f))
+    go true true e si di a b f g i k = let x : _≡_ {A = ℕ} 0 1 = cc in clash 0 1 x (omega arith)
+    go false p e si di a b f g i k = let x : _≡_ {A = ℕ} 0 1 = cc in clash 0 1 x (omega arith)
+
+-- ---- a destination texel's bytes lie within the destination
+pub destination-fits : (d : ℕ) (r : ConvertRegion) (m : ℕ) → isConvertibleRgb d ≡ true → destinationInside m d r ≡ true
+    → (z row col : ℕ) → InRegion r z row col → toAt d r z row col + bytesOf d ≤ m
+unfolding destinationInside toAt placesIn
+destination-fits d r m rgb h z row col t =
+    let y = r .«dst_y» + row in
+    let x = r .«dst_x» + col in
+    let k = texel-fits m d (r .«dst_pitch») (r .«dst_slice_pitch») z y x (inside-at m d (r .«dst_pitch») (r .«dst_slice_pitch») (r .«dst_x») (r .«dst_y») (r .width) (r .height) (r .depth) h z row col (t .slice) (t .line) (t .column)) in
+    let e = lane-places d (r .«dst_pitch») (r .«dst_slice_pitch») z y x (rgb-not-planar d rgb) (rgb-not-packed d rgb) in
+    leb-true _ m (sym (run-in m (texelStart (r .«dst_pitch») (r .«dst_slice_pitch») (bytesOf d) z y x) (bytesOf d) (rgb-some d rgb)) ∙ sym (ap (placesIn m) e) ∙ k .places)
+
+clamp-byte : (z : ℤ) → clampTo 255 z < 256
+unfolding clampTo
+clamp-byte (pos n) = omega arith
+clamp-byte (negsuc n) = omega arith
+
+-- ---- every source texel stands for its exact values
+module _ (src : List ℕ) (byte : (i : ℕ) → getD src i 0 < 256) where
+  from-byte : (os : List ℕ) (i : ℕ) → getD (bytesFrom src os) i 0 < 256
+  from-byte [] i = omega arith
+  from-byte (o ∷ os) zero = byte o
+  from-byte (o ∷ os) (suc i) = from-byte os i
+
+  at-byte : (p : Places) (i : ℕ) → getD (bytesAt src p) i 0 < 256
+  unfolding bytesAt
+  at-byte absent i = omega arith
+  at-byte (offsets os) i = from-byte os i
+
+  yuv-stands : (y u v : ℕ) → y < 256 → u < 256 → v < 256 → Stands (opaqueOf (rgbOf bt601 y u v)) (yuvValues y u v)
+  unfolding rgbOf
+  yuv-stands y u v hy hu hv =
+      let k = bt601-stands y u v hy hu hv in
+      record {
+        r-byte = clamp-byte (redRounded bt601 y u v);
+        g-byte = clamp-byte (greenRounded bt601 y u v);
+        b-byte = clamp-byte (blueRounded bt601 y u v);
+        a-byte = omega arith;
+        r-near = k .red-stands;
+        g-near = k .green-stands;
+        b-near = k .blue-stands;
+        a-near = whole-near 3 255 255 1 (omega arith) (omega arith) (omega arith);
+      }
+
+  stands-of : (f : ℕ) (odd : Bool) (p : Places) → Stands (texelOf f odd (bytesAt src p)) (valuesOf f odd (bytesAt src p))
+  unfolding texelOf valuesOf
+  stands-of f odd p = go (isYuv f)
+    where
+      bs : List ℕ
+      bs = bytesAt src p
+
+      go : (t : Bool) → Stands (pick t (opaqueOf (rgbOf bt601 (lumaOf f odd bs) (uOf f bs) (vOf f bs))) (decodedOf f (number bs))) (pick t (yuvValues (lumaOf f odd bs) (uOf f bs) (vOf f bs)) (exactOf f (number bs)))
+      go true = yuv-stands (lumaOf f odd bs) (uOf f bs) (vOf f bs) (at-byte p _) (at-byte p _) (at-byte p _)
+      go false = decoded-stands f (number bs)
+
+  pub source-stands : (s : ℕ) (r : ConvertRegion) (z row col : ℕ) → Stands (sourceTexel src s r z row col) (sourceValues src s r z row col)
+  unfolding sourceTexel sourceValues texelAt exactAt
+  source-stands s r z row col = stands-of s _ _
+
+  -- ---- near
+  pub near-source : (dst : List ℕ) (s d : ℕ) (r : ConvertRegion) → NearSource src dst (convertedBytes src dst s d r) s d r
+  unfolding convertedBytes
+  near-source dst s d r h apart z row col t c p =
+      let q = passed s d r (length src) (length dst) (not-empty r z row col t) h in
+      let rgb = convert-rgb s d (q .pair) in
+      let e : ifAccepted (replyTo s d r (length src) (length dst)) (regionWritten src s d r dst) dst ≡ regionWritten src s d r dst =
+      ap (λ a. ifAccepted a (regionWritten src s d r dst) dst) h in
+      let o = region-own src s d r apart z row col t (length dst) (destination-fits d r (length dst) rgb (q .destination) z row col t) dst refl in
+      subst (λ l. Holds c (laneOf d c) (number l) (valueOf (sourceValues src s r z row col) c))
+      (sym (ap (λ l. take (bytesOf d) (drop (toAt d r z row col) l)) e ∙ o))
+      (near-bytes (source-stands s r z row col) d rgb c p)
+
+-- ---- kept
+pub others-kept : (src dst : List ℕ) (s d : ℕ) (r : ConvertRegion) → OthersKept dst (convertedBytes src dst s d r) d r
+unfolding convertedBytes
+others-kept src dst s d r k none = go (replyTo s d r (length src) (length dst))
+  where
+    go : (a : ConvertReply) → getD (ifAccepted a (regionWritten src s d r dst) dst) k 0 ≡ getD dst k 0
+    go Accepted = region-other src s d r k none dst
+    go Unsupported = refl
+    go PlanarShape = refl
+    go SourceOutside = refl
+    go DestinationOutside = refl

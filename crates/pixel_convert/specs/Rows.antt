@@ -1,0 +1,37 @@
+-- What a row of a region asks of the two buffers, and the law that a conversion is a run of rows. Assumes nothing.
+use mathlib.Core.Path.{_≡_, refl, sym, ap, _∙_}
+use mathlib.Core.Bool.{Bool, true, false}
+use mathlib.Core.List.{List}
+use Prim.Native.Nat.{ℕ, _+_, _*_, _/_, _%_, _≤_, _<_}
+use native.Mathlib.Omega.{arith}
+use lib.ListN.{length}
+use Rattle.words.specs.Iterate.{iterate, iterate-flat, iterate-add}
+use Rattle.formats.specs.Table.{bytesOf}
+use Rattle.formats.specs.Classes.{isConvertibleRgb}
+use Rattle.pixel_convert.specs.declared.ConvertRegion.{ConvertRegion}
+use Rattle.pixel_convert.specs.Places.{isPicture}
+use Rattle.pixel_convert.specs.Inside.{TexelFits}
+use Rattle.pixel_convert.specs.Regions.{toAt, written, rowWritten, sliceWritten, regionWritten}
+
+-- the texels of row row of slice z lie within the source and the destination, and the formats are those of a picture and of a destination
+pub record RowFits (n m s d : ℕ) (r : ConvertRegion) (z row : ℕ) : Type 0 where
+  pub picture : isPicture s ≡ true
+  pub rgb : isConvertibleRgb d ≡ true
+  pub rows : (0 < r .width) × (r .«src_y» + row ≤ 4294967295) × (r .«dst_y» + row ≤ 4294967295)
+  pub source : (col : ℕ) → col < r .width → TexelFits n s (r .«src_pitch») (r .«src_slice_pitch») z (r .«src_y» + row) (r .«src_x» + col)
+  pub columns : (col : ℕ) → col < r .width → r .«dst_x» + col ≤ 4294967295
+  pub destination : (col : ℕ) → col < r .width → toAt d r z row col + bytesOf d ≤ m
+
+-- ---- a conversion as a run of rows, numbered slice × height + row
+unfoldable pub numberedRow : (src : List ℕ) (s d : ℕ) → ConvertRegion → ℕ → List ℕ → List ℕ
+numberedRow src s d r n = rowWritten src s d r (n / r .height) (n % r .height)
+
+pub by-rows : (src : List ℕ) (s d : ℕ) (r : ConvertRegion) (l : List ℕ) → regionWritten src s d r l ≡ iterate (numberedRow src s d r) (r .depth * r .height) l
+unfolding regionWritten sliceWritten numberedRow
+by-rows src s d r l = iterate-flat (rowWritten src s d r) (r .height) (r .depth) l
+
+-- the first a rows, and then the b others
+pub rows-split : (src : List ℕ) (s d : ℕ) (r : ConvertRegion) (a b : ℕ) (l : List ℕ) → a + b ≡ r .depth * r .height
+    → regionWritten src s d r l ≡ iterate (λ k. numberedRow src s d r (a + k)) b (iterate (numberedRow src s d r) a l)
+rows-split src s d r a b l e =
+    by-rows src s d r l ∙ ap (λ n. iterate (numberedRow src s d r) n l) (sym e) ∙ iterate-add (numberedRow src s d r) a b l
