@@ -1,0 +1,31 @@
+-- The exported calls in terms of the inner ones: a region from its numbers, and the values that a layout or a colour hands back.
+-- Assumes nothing.
+use mathlib.Core.List.{List, [], _∷_}
+use Prim.Native.Nat.{ℕ}
+use Rattle.pixel_convert.specs.declared.ConvertRegion.{ConvertRegion}
+use Rattle.planar_yuv.specs.Answers.{Reply}
+use Rattle.stretch_rect.specs.declared.Rgb.{Rgb}
+
+-- the region that an exported conversion is given
+abbrev pub regionOf : (src-x src-y dst-x dst-y width height src-pitch dst-pitch src-slice-pitch dst-slice-pitch depth : ℕ) → ConvertRegion
+regionOf src-x src-y dst-x dst-y width height src-pitch dst-pitch src-slice-pitch dst-slice-pitch depth = record {
+  «src_x» = src-x;
+  «src_y» = src-y;
+  «dst_x» = dst-x;
+  «dst_y» = dst-y;
+  width = width;
+  height = height;
+  «src_pitch» = src-pitch;
+  «dst_pitch» = dst-pitch;
+  «src_slice_pitch» = src-slice-pitch;
+  «dst_slice_pitch» = dst-slice-pitch;
+  depth = depth;
+}
+
+-- the three bytes of a colour, in order
+abbrev pub rgbList : Rgb → List ℕ
+rgbList p = p .r ∷ p .g ∷ p .b ∷ []
+
+-- pitch, luma rows, chroma rows and total bytes of a planar layout; zeros where it is refused
+abbrev pub planarValues : Reply → List ℕ
+planarValues r = r .pitch ∷ r .luma-rows ∷ r .chroma-rows ∷ r .total-bytes ∷ []
