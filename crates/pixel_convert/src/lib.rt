@@ -577,17 +577,18 @@ fn fetch_packed(macropixel: &[u8], d3d_format: u32, x: usize) -> Texel
     opaque(stretch_rect::decode_packed_yuv(d3d_format, macropixel, x % 2 == 1))
 }
 
-// The texel at slice z, row y and column x.
+// The texel at slice z, row y and column x; `size` is its format's bytes.
 fn fetch(
     src: &[u8],
     d3d_format: u32,
+    size: usize,
     pitch: usize,
     slice_pitch: usize,
     z: usize,
     y: usize,
     x: usize,
 ) -> Texel
-    requires { ⌜ (isPicture «d3d_format» ≡ true) × (placesIn (length (now src)) (placesAt «d3d_format» pitch «slice_pitch» z y x) ≡ true) ⌝ }
+    requires { ⌜ (isPicture «d3d_format» ≡ true) × (size ≡ bytesOf «d3d_format») × (placesIn (length (now src)) (placesAt «d3d_format» pitch «slice_pitch» z y x) ≡ true) ⌝ }
     ensures { λ r. ⌜ r ≡ texelAt (now (src .entry)) «d3d_format» pitch «slice_pitch» z y x ⌝ }
 {
     if formats::is_planar_yuv(d3d_format) {
@@ -597,14 +598,15 @@ fn fetch(
         let at = z * slice_pitch + y * pitch + x / 2 * 4;
         return fetch_packed(&src[at..], d3d_format, x);
     }
-    let from = z * slice_pitch + y * pitch + x * formats::bytes_per_texel(d3d_format);
+    let from = z * slice_pitch + y * pitch + x * size;
     decode_pixel(d3d_format, &src[from..])
 }
 
-// A texel's bytes at slice z, row y and column x.
+// A texel's bytes at slice z, row y and column x; `size` is their number.
 fn store(
     dst: &mut [u8],
     d3d_format: u32,
+    size: usize,
     pitch: usize,
     slice_pitch: usize,
     z: usize,
@@ -612,10 +614,10 @@ fn store(
     x: usize,
     t: Texel,
 )
-    requires { ⌜ (isConvertibleRgb «d3d_format» ≡ true) × (texelStart pitch «slice_pitch» (bytesOf «d3d_format») z y x + bytesOf «d3d_format» ≤ length (now dst)) ⌝ }
+    requires { ⌜ (isConvertibleRgb «d3d_format» ≡ true) × (size ≡ bytesOf «d3d_format») × (texelStart pitch «slice_pitch» (bytesOf «d3d_format») z y x + bytesOf «d3d_format» ≤ length (now dst)) ⌝ }
     ensures { λ _. ⌜ now (dst .exit) ≡ sets (now (dst .entry)) (texelStart pitch «slice_pitch» (bytesOf «d3d_format») z y x) (encodedBytes «d3d_format» t) ⌝ }
 {
-    let to = z * slice_pitch + y * pitch + x * formats::bytes_per_texel(d3d_format);
+    let to = z * slice_pitch + y * pitch + x * size;
     encode_rgb_pixel(d3d_format, t, &mut dst[to..]);
 }
 
@@ -642,10 +644,12 @@ fn convert_row(
     let ss = region.src_slice_pitch;
     let ds = region.dst_slice_pitch;
     let width = region.width as usize;
+    let from_size = formats::bytes_per_texel(src_format);
+    let to_size = formats::bytes_per_texel(dst_format);
     let mut col: usize = 0;
     while col < width {
-        let t = fetch(src, src_format, sp, ss, z, sy, sx + col);
-        store(dst, dst_format, dp, ds, z, dy, dx + col, t);
+        let t = fetch(src, src_format, from_size, sp, ss, z, sy, sx + col);
+        store(dst, dst_format, to_size, dp, ds, z, dy, dx + col, t);
         col += 1;
     }
 }

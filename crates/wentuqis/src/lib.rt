@@ -3,12 +3,28 @@
 // every lent byte as it was, and what is handed back is then zero.
 ghost use mathlib.Core.Path.{_≡_};
 ghost use mathlib.Core.List.{[], _∷_};
+ghost use Prim.Native.Nat.{_<_};
+ghost use lib.ListN.{length};
 ghost use Rattle.planar_yuv.specs.Answers.{replyOf, fromPitch, fromWidth};
 ghost use Rattle.stretch_rect.specs.Yuv.{bt601, rgbOf, RgbNear, decimalUnit, decimalSlack, redDecimal, greenDecimal, blueDecimal};
 ghost use Rattle.pixel_convert.specs.Regions.{canConvert, canConvertUpdate, convertReply, convertedBytes, replyNumber, NearSource, OthersKept};
-ghost use Rattle.wentuqis.specs.Calls.{regionOf, rgbList, planarValues};
-
-use pixel_convert::{ConvertRegion, ConvertReply};
+ghost use Rattle.formats.specs.Table.{bytesOf};
+ghost use Rattle.formats.specs.Lanes.{red, green, blue, alpha};
+ghost use Rattle.convert.specs.Half.{halfOf, HalfOf};
+ghost use Rattle.convert.specs.Color.{byteOf, unormOf};
+ghost use Rattle.convert.specs.Fill.{fillOf};
+ghost use Rattle.convert.specs.Splat.{Splat};
+ghost use Rattle.depth_texture.specs.Layouts.{layoutRefusal, layoutFor, answerNumber, answerLayout};
+ghost use Rattle.depth_texture.specs.Replies.{refusalOf};
+ghost use Rattle.depth_texture.specs.Planes.{unpackedDepth, unpackedStencil, packedBuffer};
+ghost use Rattle.depth_texture.specs.Promises.{firstRefusal, KeepsAll, Restores, SamePixels, PlanesKept, SameElsewhere, NearestCodes};
+ghost use Rattle.wentuqis.specs.Calls.{regionOf, planesOf, rgbList, planarValues, planeValues, fillNumber, depthNumber};
+use convert::FillReply;
+use depth_texture::DepthReply;
+use depth_texture::PlaneLayout;
+use depth_texture::PlaneLayoutAnswer;
+use pixel_convert::ConvertRegion;
+use pixel_convert::ConvertReply;
 use planar_yuv::PlanarYuvAnswer;
 
 // ---- conversion
@@ -99,7 +115,12 @@ fn put_planar(answer: PlanarYuvAnswer, layout: &mut [u64; 4]) -> u32
 {
     match answer {
         PlanarYuvAnswer::Layout(l) => {
-            *layout = [l.pitch as u64, l.luma_rows as u64, l.chroma_rows as u64, l.total_bytes as u64];
+            *layout = [
+                l.pitch as u64,
+                l.luma_rows as u64,
+                l.chroma_rows as u64,
+                l.total_bytes as u64,
+            ];
             0
         }
         PlanarYuvAnswer::Refused => {
@@ -111,7 +132,12 @@ fn put_planar(answer: PlanarYuvAnswer, layout: &mut [u64; 4]) -> u32
 
 // Refusal 14. The values are pitch, luma rows, chroma rows and total bytes.
 #[no_mangle]
-pub extern "C" fn wentuqis_planar_yuv_layout(format: u32, width: u32, height: u32, layout: &mut [u64; 4]) -> u32
+pub extern "C" fn wentuqis_planar_yuv_layout(
+    format: u32,
+    width: u32,
+    height: u32,
+    layout: &mut [u64; 4],
+) -> u32
     ensures reply { λ r. ⌜ r ≡ fromWidth format width height .number ⌝ }
     ensures values { λ _. ⌜ now (layout .exit) ≡ planarValues (fromWidth format width height) ⌝ }
 {
@@ -120,9 +146,305 @@ pub extern "C" fn wentuqis_planar_yuv_layout(format: u32, width: u32, height: u3
 
 // Refusal 14. The values are pitch, luma rows, chroma rows and total bytes.
 #[no_mangle]
-pub extern "C" fn wentuqis_planar_yuv_layout_from_pitch(format: u32, pitch: usize, luma_rows: usize, layout: &mut [u64; 4]) -> u32
+pub extern "C" fn wentuqis_planar_yuv_layout_from_pitch(
+    format: u32,
+    pitch: usize,
+    luma_rows: usize,
+    layout: &mut [u64; 4],
+) -> u32
     ensures reply { λ r. ⌜ r ≡ fromPitch format pitch «luma_rows» .number ⌝ }
     ensures values { λ _. ⌜ now (layout .exit) ≡ planarValues (fromPitch format pitch «luma_rows») ⌝ }
 {
-    put_planar(planar_yuv::planar_yuv_layout_from_pitch(format, pitch, luma_rows), layout)
+    put_planar(
+        planar_yuv::planar_yuv_layout_from_pitch(format, pitch, luma_rows),
+        layout,
+    )
+}
+
+// ---- fills
+
+fn fill_number(reply: FillReply) -> u32
+    ensures { λ r. ⌜ r ≡ fillNumber reply ⌝ }
+{
+    match reply {
+        FillReply::Filled => 0,
+        FillReply::NoFill => 5,
+    }
+}
+
+// Refusal 5. The pixel's bytes come first, zeros after them.
+#[no_mangle]
+pub extern "C" fn wentuqis_d3dcolor_fill_pixel_bytes(
+    color: u32,
+    format: u32,
+    bytes: &mut [u8; 16],
+    length: &mut u32,
+) -> u32
+    ensures reply { λ r. ⌜ r ≡ fillOf color format .reply ⌝ }
+    ensures values { λ _. ⌜ now (bytes .exit) ≡ fillOf color format .bytes ⌝ }
+    ensures counted { λ _. ⌜ now (length .exit) ≡ fillOf color format .len ⌝ }
+{
+    let p = convert::d3dcolor_fill_pixel_bytes(color, format);
+    let pixel = p.bytes;
+    *bytes = pixel;
+    *length = p.len as u32;
+    let reply = p.reply;
+    fill_number(reply)
+}
+
+// No refusal: an empty pattern leaves every byte, and one that does not divide the destination leaves its last bytes.
+#[no_mangle]
+pub extern "C" fn wentuqis_splat_pixel_pattern(dst: &mut [u8], pixel: &[u8])
+    ensures bytes { λ _. ⌜ Splat (now (pixel .entry)) (now (dst .entry)) (now (dst .exit)) ⌝ }
+{
+    convert::splat_pixel_pattern(dst, pixel);
+}
+
+#[no_mangle]
+pub extern "C" fn wentuqis_f32_to_f16_bits(bits: u32) -> u16
+    ensures is { λ r. ⌜ r ≡ halfOf bits ⌝ }
+    ensures nearest { λ r. ⌜ HalfOf bits r ⌝ }
+{
+    convert::f32_to_f16_bits(bits)
+}
+
+// Red, green, blue and alpha, each its byte over 255.
+#[no_mangle]
+pub extern "C" fn wentuqis_d3dcolor_to_rgba_f32(color: u32, rgba: &mut [f32; 4])
+    ensures is { λ _. ⌜ now (rgba .exit) ≡ (unormOf (byteOf color red) ∷ unormOf (byteOf color green) ∷ unormOf (byteOf color blue) ∷ unormOf (byteOf color alpha) ∷ []) ⌝ }
+{
+    *rgba = convert::d3dcolor_to_rgba_f32(color);
+}
+
+// ---- depth
+
+// The values of an answer, and its number.
+fn put_planes(answer: PlaneLayoutAnswer, layout: &mut [u64; 4]) -> u32
+    ensures reply { λ r. ⌜ r ≡ answerNumber answer ⌝ }
+    ensures values { λ _. ⌜ now (layout .exit) ≡ planeValues (answerLayout answer) ⌝ }
+{
+    match answer {
+        PlaneLayoutAnswer::Layout(l) => {
+            *layout = [
+                l.width as u64,
+                l.height as u64,
+                l.depth_pitch as u64,
+                l.stencil_pitch as u64,
+            ];
+            0
+        }
+        PlaneLayoutAnswer::ZeroSize => {
+            *layout = [0, 0, 0, 0];
+            6
+        }
+        PlaneLayoutAnswer::NoPowerOfTwo => {
+            *layout = [0, 0, 0, 0];
+            7
+        }
+        PlaneLayoutAnswer::Over64Bits => {
+            *layout = [0, 0, 0, 0];
+            8
+        }
+    }
+}
+
+// Refusals 6 to 8. The values are width, height, depth pitch and stencil pitch.
+#[no_mangle]
+pub extern "C" fn wentuqis_plane_layout(
+    width: u32,
+    height: u32,
+    alignment: u32,
+    layout: &mut [u64; 4],
+) -> u32
+    ensures reply { λ r. ⌜ r ≡ layoutRefusal width height alignment ⌝ }
+    ensures values { λ _. ⌜ now (layout .exit) ≡ planeValues (layoutFor width height alignment) ⌝ }
+{
+    put_planes(PlaneLayout::new(width, height, alignment), layout)
+}
+
+fn depth_number(reply: DepthReply) -> u32
+    ensures { λ r. ⌜ r ≡ depthNumber reply ⌝ }
+{
+    match reply {
+        DepthReply::Accepted => 0,
+        DepthReply::NotPackedDepth => 9,
+        DepthReply::BadLayout => 10,
+        DepthReply::ShortPacked => 11,
+        DepthReply::ShortDepth => 12,
+        DepthReply::ShortStencil => 13,
+    }
+}
+
+// Refusals 9 to 13.
+#[no_mangle]
+pub extern "C" fn wentuqis_unpack(
+    format: u32,
+    width: usize,
+    height: usize,
+    depth_pitch: usize,
+    stencil_pitch: usize,
+    packed: &[u8],
+    packed_pitch: usize,
+    depth: &mut [u8],
+    stencil: &mut [u8],
+) -> u32
+    ensures reply { λ r. ⌜ r ≡ refusalOf format (planesOf width height «depth_pitch» «stencil_pitch») (length (now (packed .entry))) «packed_pitch» (length (now (depth .entry))) (length (now (stencil .entry))) ⌝ }
+    ensures planes { λ _. ⌜ (now (depth .exit) ≡ unpackedDepth format (planesOf width height «depth_pitch» «stencil_pitch») (now (packed .entry)) «packed_pitch» (now (depth .entry)) (now (stencil .entry))) × (now (stencil .exit) ≡ unpackedStencil format (planesOf width height «depth_pitch» «stencil_pitch») (now (packed .entry)) «packed_pitch» (now (depth .entry)) (now (stencil .entry))) ⌝ }
+    ensures restores { λ r. ⌜ (r ≡ 0 → KeepsAll format → Restores format (planesOf width height «depth_pitch» «stencil_pitch») (now (packed .entry)) «packed_pitch» (now (depth .exit)) (now (stencil .exit))) ⌝ }
+    ensures kept { λ _. ⌜ PlanesKept format (planesOf width height «depth_pitch» «stencil_pitch») (now (depth .entry)) (now (depth .exit)) (now (stencil .entry)) (now (stencil .exit)) ⌝ }
+{
+    let layout = PlaneLayout {
+        width,
+        height,
+        depth_pitch,
+        stencil_pitch,
+    };
+    depth_number(layout.unpack(format, packed, packed_pitch, depth, stencil))
+}
+
+// Refusals 9 to 13.
+#[no_mangle]
+pub extern "C" fn wentuqis_pack(
+    format: u32,
+    width: usize,
+    height: usize,
+    depth_pitch: usize,
+    stencil_pitch: usize,
+    depth: &[u8],
+    stencil: &[u8],
+    packed: &mut [u8],
+    packed_pitch: usize,
+) -> u32
+    ensures reply { λ r. ⌜ r ≡ refusalOf format (planesOf width height «depth_pitch» «stencil_pitch») (length (now (packed .entry))) «packed_pitch» (length (now (depth .entry))) (length (now (stencil .entry))) ⌝ }
+    ensures bytes { λ _. ⌜ now (packed .exit) ≡ packedBuffer format (planesOf width height «depth_pitch» «stencil_pitch») (now (depth .entry)) (now (stencil .entry)) (now (packed .entry)) «packed_pitch» ⌝ }
+    ensures nearest { λ r. ⌜ (r ≡ 0 → NearestCodes format (planesOf width height «depth_pitch» «stencil_pitch») (now (depth .entry)) (now (packed .exit)) «packed_pitch») ⌝ }
+    ensures kept { λ _. ⌜ SameElsewhere «packed_pitch» (bytesOf format) width height (now (packed .entry)) (now (packed .exit)) ⌝ }
+{
+    let layout = PlaneLayout {
+        width,
+        height,
+        depth_pitch,
+        stencil_pitch,
+    };
+    depth_number(layout.pack(format, depth, stencil, packed, packed_pitch))
+}
+
+// ---- what a viewer relies on, by the calls above alone
+
+// Unpacks a packed picture and packs the untouched planes into another buffer: accepted, that holds the same pixels.
+pub fn unpack_and_pack(
+    format: u32,
+    width: usize,
+    height: usize,
+    depth_pitch: usize,
+    stencil_pitch: usize,
+    packed: &[u8],
+    packed_pitch: usize,
+    depth: &mut [u8],
+    stencil: &mut [u8],
+    out: &mut [u8],
+    out_pitch: usize,
+) -> u32
+    ensures reply { λ r. ⌜ r ≡ firstRefusal (refusalOf format (planesOf width height «depth_pitch» «stencil_pitch») (length (now (packed .entry))) «packed_pitch» (length (now (depth .entry))) (length (now (stencil .entry)))) (refusalOf format (planesOf width height «depth_pitch» «stencil_pitch») (length (now (out .entry))) «out_pitch» (length (now (depth .entry))) (length (now (stencil .entry)))) ⌝ }
+    ensures restores { λ r. ⌜ (r ≡ 0 → KeepsAll format → SamePixels format (planesOf width height «depth_pitch» «stencil_pitch») (now (packed .entry)) «packed_pitch» (now (out .exit)) «out_pitch») ⌝ }
+{
+    let unpacked = wentuqis_unpack(
+        format,
+        width,
+        height,
+        depth_pitch,
+        stencil_pitch,
+        packed,
+        packed_pitch,
+        depth,
+        stencil,
+    );
+    if unpacked != 0 {
+        return unpacked;
+    }
+    wentuqis_pack(
+        format,
+        width,
+        height,
+        depth_pitch,
+        stencil_pitch,
+        depth,
+        stencil,
+        out,
+        out_pitch,
+    )
+}
+
+// The replies to a conversion, an unpacking and a packing.
+pub struct Replies {
+    pub converted: u32,
+    pub unpacked: u32,
+    pub packed: u32,
+}
+
+// Converts a region, unpacks a picture and packs planes, each with buffers of its own: whatever is refused has left every byte
+// that it was lent.
+pub fn convert_unpack_pack(
+    dst: &mut [u8],
+    dst_format: u32,
+    src: &[u8],
+    src_format: u32,
+    region: ConvertRegion,
+    format: u32,
+    planes: PlaneLayout,
+    packed: &[u8],
+    packed_pitch: usize,
+    depth: &mut [u8],
+    stencil: &mut [u8],
+    out: &mut [u8],
+    out_pitch: usize,
+) -> Replies
+    ensures converted { λ r. ⌜ (0 < r .converted → now (dst .exit) ≡ now (dst .entry)) ⌝ }
+    ensures unpacked { λ r. ⌜ (0 < r .unpacked → (now (depth .exit) ≡ now (depth .entry)) × (now (stencil .exit) ≡ now (stencil .entry))) ⌝ }
+    ensures packed { λ r. ⌜ (0 < r .packed → now (out .exit) ≡ now (out .entry)) ⌝ }
+{
+    let converted = wentuqis_convert_region(
+        dst,
+        dst_format,
+        src,
+        src_format,
+        region.src_x,
+        region.src_y,
+        region.dst_x,
+        region.dst_y,
+        region.width,
+        region.height,
+        region.src_pitch,
+        region.dst_pitch,
+        region.src_slice_pitch,
+        region.dst_slice_pitch,
+        region.depth,
+    );
+    let unpacked = wentuqis_unpack(
+        format,
+        planes.width,
+        planes.height,
+        planes.depth_pitch,
+        planes.stencil_pitch,
+        packed,
+        packed_pitch,
+        depth,
+        stencil,
+    );
+    let repacked = wentuqis_pack(
+        format,
+        planes.width,
+        planes.height,
+        planes.depth_pitch,
+        planes.stencil_pitch,
+        depth,
+        stencil,
+        out,
+        out_pitch,
+    );
+    Replies {
+        converted,
+        unpacked,
+        packed: repacked,
+    }
 }

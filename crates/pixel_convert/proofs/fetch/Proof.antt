@@ -37,7 +37,7 @@ packed-in : (c : tie.Then2) → texelStart (c .before .before .before .before .b
 packed-in c =
     let s = c .before .before .before .before .before in
     let g = s .args in
-    packed-ends (length (now (g .src))) (g .d3d-format) (g .pitch) (g .slice-pitch) (g .z) (g .y) (g .x) (s .pre .1) (not-planar (c .before .before)) (packed c)
+    packed-ends (length (now (g .src))) (g .d3d-format) (g .pitch) (g .slice-pitch) (g .z) (g .y) (g .x) (s .pre .2) (not-planar (c .before .before)) (packed c)
 
 lanes : (c : tie.Else2) → isLaneSource (c .before .before .before .before .before .args .d3d-format) ≡ true
 lanes c = lanes-left _ (c .before .before .before .before .before .pre .0) (not-planar (c .before .before)) (not-packed c)
@@ -47,13 +47,14 @@ lane-in : (c : tie.Else2) → texelStart (c .before .before .before .before .bef
 lane-in c =
     let s = c .before .before .before .before .before in
     let g = s .args in
-    lane-ends (length (now (g .src))) (g .d3d-format) (g .pitch) (g .slice-pitch) (g .z) (g .y) (g .x) (s .pre .1) (not-planar (c .before .before)) (not-packed c) (lane-some (g .d3d-format) (lanes c))
+    lane-ends (length (now (g .src))) (g .d3d-format) (g .pitch) (g .slice-pitch) (g .z) (g .y) (g .x) (s .pre .2) (not-planar (c .before .before)) (not-packed c) (lane-some (g .d3d-format) (lanes c))
 
-ends : (c : tie.After-bytes-per-texel) → c .before .before .before .before .before .before .args .z * c .before .before .before .before .before .before .args .slice-pitch + c .before .before .before .before .before .before .args .y * c .before .before .before .before .before .before .args .pitch + c .before .before .before .before .before .before .args .x * c .bytes-per-texel .result + c .bytes-per-texel .result ≤ length (now (c .before .before .before .before .before .before .args .src))
+ends : (c : tie.Else2) → c .before .before .before .before .before .args .z * c .before .before .before .before .before .args .slice-pitch + c .before .before .before .before .before .args .y * c .before .before .before .before .before .args .pitch + c .before .before .before .before .before .args .x * c .before .before .before .before .before .args .size + c .before .before .before .before .before .args .size ≤ length (now (c .before .before .before .before .before .args .src))
 unfolding texelStart
 ends c =
-    let g = c .before .before .before .before .before .before .args in
-    subst (λ (n : ℕ). g .z * g .slice-pitch + g .y * g .pitch + g .x * n + n ≤ length (now (g .src))) (sym (c .bytes-per-texel .ensures)) (lane-in (c .before))
+    let s = c .before .before .before .before .before in
+    let g = s .args in
+    subst (λ (n : ℕ). g .z * g .slice-pitch + g .y * g .pitch + g .x * n + n ≤ length (now (g .src))) (sym (s .pre .1)) (lane-in c)
 
 is-planar-yuv-requires : tie.Need-is-planar-yuv-requires
 is-planar-yuv-requires c κs = search needs
@@ -63,7 +64,7 @@ fetch-planar-requires c κs =
     let s = c .before .before .before in
     let g = s .args in
     let p = planar c in
-    (p, sym (ap (placesIn (length (now (g .src)))) (planar-places (g .d3d-format) (g .pitch) (g .slice-pitch) (g .z) (g .y) (g .x) p)) ∙ s .pre .1)
+    (p, sym (ap (placesIn (length (now (g .src)))) (planar-places (g .d3d-format) (g .pitch) (g .slice-pitch) (g .z) (g .y) (g .x) p)) ∙ s .pre .2)
 
 returns : tie.Need-returns
 returns c =
@@ -132,9 +133,6 @@ add-from : tie.Need-add-from
 unfolding texelStart
 add-from c = omega (arith, lane-in c)
 
-bytes-per-texel-requires : tie.Need-bytes-per-texel-requires
-bytes-per-texel-requires c κs = search needs
-
 mul-from-3 : tie.Need-mul-from-3
 unfolding texelStart
 mul-from-3 c = omega (arith, ends c)
@@ -156,22 +154,20 @@ part-decode-pixel-end c = search needs
 
 decode-pixel-requires : tie.Need-decode-pixel-requires
 decode-pixel-requires c κs =
-    let k = c .before in
-    let e = k .before in
-    (lanes e, simp (length-take, length-drop) (omega (arith, ends k, k .bytes-per-texel .ensures)))
+    let e = c .before in
+    (lanes e, simp (length-take, length-drop) (omega (arith, ends e, e .before .before .before .before .before .pre .1)))
 
 returns-3 : tie.Need-returns-3
 unfolding texelStart
 returns-3 c =
-    let k = c .before .before in
-    let e = k .before in
-    let g = e .before .before .before .before .before .args in
+    let e = c .before .before in
+    let s = e .before .before .before .before .before in
+    let g = s .args in
     let l = now (g .src) in
     let f = g .d3d-format in
-    let n = k .bytes-per-texel .result in
     c .decode-pixel .ensures
-    ∙ ap (λ (m : List ℕ). decodedOf f (number (take (bytesOf f) m))) (part-read l (g .z * g .slice-pitch + g .y * g .pitch + g .x * n))
-    ∙ ap (λ (m : ℕ). decodedOf f (number (take (bytesOf f) (drop (g .z * g .slice-pitch + g .y * g .pitch + g .x * m) l)))) (k .bytes-per-texel .ensures)
+    ∙ ap (λ (m : List ℕ). decodedOf f (number (take (bytesOf f) m))) (part-read l (g .z * g .slice-pitch + g .y * g .pitch + g .x * g .size))
+    ∙ ap (λ (m : ℕ). decodedOf f (number (take (bytesOf f) (drop (g .z * g .slice-pitch + g .y * g .pitch + g .x * m) l)))) (s .pre .1)
     ∙ sym (lane-texel l f (g .pitch) (g .slice-pitch) (g .z) (g .y) (g .x) (not-planar (e .before .before)) (not-packed e) (lane-in e))
 
 pub fetch-spec : {M : Type 1} → statement M
@@ -195,7 +191,6 @@ fetch-spec =
     mul-from
     mul-from-2
     add-from
-    bytes-per-texel-requires
     mul-from-3
     add-from-2
     sub-decode-pixel

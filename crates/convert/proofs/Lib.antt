@@ -1,0 +1,4 @@
+-- What the proofs of several functions use.
+pub mod Lanes
+pub mod Arms
+pub mod Splats

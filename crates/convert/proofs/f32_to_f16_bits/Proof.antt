@@ -1,0 +1,85 @@
+-- `convert::f32_to_f16_bits` meets its contract: the code by the pattern's range, with the sign above it. Assumes nothing.
+use mathlib.Core.Path.{_≡_, refl, sym, ap, _∙_, subst}
+use Prim.Native.Nat.{ℕ, _+_, _*_, _/_, _%_, _≤_, _<_, _^_}
+use native.Mathlib.Nat.{add-zero}
+use native.Mathlib.Omega.{arith}
+use lib.Ieee.{binary32, ofBits}
+use borrow.Author.Needs.{needs}
+use Rattle.convert.specs.Half.{codeOf, code-small, halfOf, HalfOf, half-of, nearestHalf}
+use Rattle.convert.specs.Patterns.{nan-code, overflow-code, small-code, middle-code, floatUnits}
+use Rattle.convert.proofs.f32_to_f16_bits.Statement.{statement}
+use Rattle.convert.proofs.f32_to_f16_bits.Tie as tie
+
+-- an answer with the sign and the code
+answer : (b k r : ℕ) → codeOf (ofBits binary32 b) ≡ k → r ≡ b / 2147483648 * 32768 + k → (r ≡ halfOf b) × HalfOf b r
+unfolding halfOf
+answer b k r e f =
+    let g : r ≡ halfOf b = f ∙ ap (λ (x : ℕ). b / 2147483648 * 32768 + x) (sym e) in
+    (g, subst (HalfOf b) (sym g) (half-of b))
+
+-- the sign does not count for the code
+signless : (b : ℕ) → 0x33800000 ≤ b % 2147483648 → b % 2147483648 < 0x477ff000 → codeOf (ofBits binary32 b) ≡ codeOf (ofBits binary32 (b % 2147483648))
+signless b h l =
+    let e : b % 2147483648 % 2147483648 ≡ b % 2147483648 = omega arith in
+    middle-code b h l
+    ∙ sym (subst (λ (a : ℕ). codeOf (ofBits binary32 (b % 2147483648)) ≡ nearestHalf (floatUnits a) (2 ^ 125)) e (middle-code (b % 2147483648) (omega arith) (omega arith)))
+
+mul-sign : tie.Need-mul-sign
+mul-sign c = search needs
+
+add-result : tie.Need-add-result
+add-result c = search needs
+
+cast-result : tie.Need-cast-result
+cast-result c = search needs
+
+returns : tie.Need-returns
+returns c = answer (c .before .args .bits) 0x7e00 _ (nan-code _ (c .if1 .taken)) refl
+
+add-result-2 : tie.Need-add-result-2
+add-result-2 c = search needs
+
+cast-result-2 : tie.Need-cast-result-2
+cast-result-2 c = search needs
+
+returns-2 : tie.Need-returns-2
+returns-2 c = answer (c .before .before .args .bits) 0x7c00 _ (overflow-code _ (c .if2 .taken) (c .before .if1 .left)) refl
+
+cast-result-3 : tie.Need-cast-result-3
+cast-result-3 c = search needs
+
+returns-3 : tie.Need-returns-3
+returns-3 c = answer (c .before .before .before .args .bits) 0 _ (small-code _ (c .if3 .taken)) (sym (add-zero _))
+
+nearest-f16-requires : tie.Need-nearest-f16-requires
+nearest-f16-requires c κs = search needs
+
+found : (c : tie.After-nearest-f16) → codeOf (ofBits binary32 (c .before .before .before .before .args .bits)) ≡ c .nearest-f16 .result
+found c = signless (c .before .before .before .before .args .bits) (c .before .if3 .left) (c .before .before .if2 .left) ∙ sym (c .nearest-f16 .ensures)
+
+add-result-3 : tie.Need-add-result-3
+add-result-3 c = omega (arith, found c, code-small (ofBits binary32 (c .before .before .before .before .args .bits)))
+
+cast-result-4 : tie.Need-cast-result-4
+cast-result-4 c = omega (arith, found c, code-small (ofBits binary32 (c .before .before .before .before .args .bits)))
+
+returns-4 : tie.Need-returns-4
+returns-4 c = answer (c .before .before .before .before .args .bits) (c .nearest-f16 .result) _ (found c) refl
+
+pub f32-to-f16-bits-spec : {M : Type 1} → statement M
+f32-to-f16-bits-spec =
+    tie.close
+    (tie.spec
+    mul-sign
+    add-result
+    cast-result
+    returns
+    add-result-2
+    cast-result-2
+    returns-2
+    cast-result-3
+    returns-3
+    nearest-f16-requires
+    add-result-3
+    cast-result-4
+    returns-4)

@@ -1,0 +1,8 @@
+-- What the contracts cite, and laws that other crates cite.
+pub mod Even
+pub mod Units
+pub mod Half
+pub mod Patterns
+pub mod Color
+pub mod Fill
+pub mod Splat

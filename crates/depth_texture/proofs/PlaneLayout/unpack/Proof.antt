@@ -1,0 +1,68 @@
+-- `depth_texture::PlaneLayout::unpack` meets its contract: what the tests found, and then the rows. Assumes nothing.
+use mathlib.Core.Path.{_≡_, ap, _∙_, subst}
+use native.Mathlib.Omega.{arith}
+use lib.ListN.{length}
+use denote.Ref.{now}
+use Rattle.depth_texture.specs.Pixels.{formatCode}
+use Rattle.depth_texture.specs.Replies.{refusalOf, Checked}
+use Rattle.depth_texture.specs.Planes.{depthPlane, stencilPlane}
+use Rattle.depth_texture.proofs.Calls.{accepted-as, unpack-refused, unpack-accepted}
+use borrow.Author.Needs.{needs}
+use Rattle.depth_texture.proofs.PlaneLayout.unpack.Statement.{statement}
+use Rattle.depth_texture.proofs.PlaneLayout.unpack.Tie as tie
+
+-- the format that was found
+found : (c : tie.After-kind)
+    → let g = c .before .before .before .before .before .before .args in
+    (formatCode (c .kind .given .0 .0) ≡ g .format) × (refusalOf (g .format) (g .self) (length (now (g .packed))) (g .packed-pitch) (length (now (g .depth))) (length (now (g .stencil))) ≡ 0)
+found c = subst (Checked (c .before .before .before .before .before .before .args .format) _) (c .kind .given .1) (c .before .before .check .ensures)
+
+check-requires : tie.Need-check-requires
+check-requires c κs = search needs
+
+enum-known-reply : tie.Need-enum-known-reply
+enum-known-reply c = search needs
+
+enum-known-kind : tie.Need-enum-known-kind
+enum-known-kind c = search needs
+
+unpack-rows-requires : tie.Need-unpack-rows-requires
+unpack-rows-requires c κs =
+    let k = c .before .before .before in
+    let g = k .before .before .before .before .before .before .args in
+    accepted-as (k .kind .given .0 .0) (g .format) (g .self) (length (now (g .packed))) (g .packed-pitch) (length (now (g .depth))) (length (now (g .stencil))) (found k)
+
+returns : tie.Need-returns
+returns c =
+    let k = c .before in
+    let g = k .before .before .before .before .before .before .args in
+    let e = subst (Checked (g .format) _) (k .reply .given .1) (k .before .before .check .ensures) in
+    unpack-refused (g .format) (g .self) (now (g .packed)) (g .packed-pitch) (now (g .depth)) (now (g .stencil)) _ (e .0) (e .1)
+
+same-length : tie.Need-same-length
+same-length c = search needs
+
+same-length-2 : tie.Need-same-length-2
+same-length-2 c = search needs
+
+returns-2 : tie.Need-returns-2
+returns-2 c =
+    let k = c .before .before .before .before .before .before .before .before in
+    let g = k .before .before .before .before .before .before .args in
+    let r = c .before .before .before .before .unpack-rows in
+    unpack-accepted (g .format) (g .self) (now (g .packed)) (g .packed-pitch) (now (g .depth)) (now (g .stencil)) (found k .1) (λ i. omega (arith, k .before .before .before .before .before .shared-slice-known .given i)) _ _
+    (r .ensures .0 ∙ ap (λ f. depthPlane f (g .self) (now (g .packed)) (g .packed-pitch) (now (g .depth))) (found k .0))
+    (r .ensures .1 ∙ ap (λ f. stencilPlane f (g .self) (now (g .packed)) (g .packed-pitch) (now (g .stencil))) (found k .0))
+
+pub unpack-spec : {M : Type 1} → statement M
+unpack-spec =
+    tie.close
+    (tie.spec
+    check-requires
+    enum-known-reply
+    enum-known-kind
+    unpack-rows-requires
+    returns
+    same-length
+    same-length-2
+    returns-2)

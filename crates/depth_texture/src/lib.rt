@@ -1,0 +1,738 @@
+// Packed depth pixels (D16, D24X8, D24S8), and the planes of binary32 depths and of stencil bytes that they are unpacked into and
+// packed from. Refused, before any byte is written: a plane layout with a zero size, an alignment that is no power of two, planes
+// over 64 bits, a code of no packed depth format, and buffers that are too short. specs/ has the codes (Depth), the pixels (Pixels),
+// the layouts (Layouts), the refusals (Replies), what the two calls write (Planes) and what they promise (Promises).
+// Ported from depth_texture.rs of athei/mtld3d (an altered version, see NOTICE).
+use formats::D3DFMT_D16;
+use formats::D3DFMT_D24S8;
+use formats::D3DFMT_D24X8;
+use words::le16;
+use words::le32;
+use words::put16;
+use words::put32;
+ghost use mathlib.Core.Path.{_≡_};
+ghost use mathlib.Core.Bool.{true, not};
+ghost use mathlib.Core.List.{[]};
+ghost use Prim.Native.Nat.{_+_, _*_, _-_, _^_, _≤_, _<_, max};
+ghost use lib.ListN.{length};
+ghost use lib.Seq.{sets};
+ghost use lib.Dec.{T, leb, eqb};
+ghost use lib.Ieee.{binary32, ofBits, toBits, isNan};
+ghost use lib.Ieee.Nearest.{closest};
+ghost use Rattle.words.specs.Little.{bytes};
+ghost use Rattle.formats.specs.Codes as codes;
+ghost use Rattle.formats.specs.Table.{bytesOf};
+ghost use Rattle.channels.specs.Floats.{clamped};
+ghost use Rattle.depth_texture.specs.Depth.{codeFor};
+ghost use Rattle.depth_texture.specs.Pixels.{formatCode, StandsFor, hasStencil, decoded, encoded};
+ghost use Rattle.depth_texture.specs.Layouts.{limit, isPowerOfTwo, raised, answerNumber, answerLayout, layoutRefusal, layoutFor, Stands, stands};
+ghost use Rattle.depth_texture.specs.Replies.{replyNumber, refusalOf, Accepts, Checked, packedHolds, stencilHolds};
+ghost use Rattle.depth_texture.specs.Pictures.{writtenRow, RowIn};
+ghost use Rattle.depth_texture.specs.Planes.{depthAt, wordAt, depthBytes, stencilBytes, packedBytes, depthRow, stencilRow, packedRow, depthPlane, stencilPlane, packedPixels, ifAccepted, unpackedDepth, unpackedStencil, packedBuffer};
+ghost use Rattle.depth_texture.specs.Promises.{firstRefusal, KeepsAll, SamePixels, Restores, SameElsewhere, PlanesKept, NearestCodes};
+
+// The packed depth formats, whose codes survive binary32 storage.
+pub enum PackedDepth {
+    D16,
+    D24X8,
+    D24S8,
+}
+
+// What a format code stands for: a packed depth format, or none.
+pub enum PackedDepthCode {
+    Depth(PackedDepth),
+    Other,
+}
+
+// What a pixel stands for. Without a stencil that is 0.
+pub struct DepthStencil {
+    pub depth: f32,
+    pub stencil: u8,
+}
+
+impl PackedDepth {
+    // The packed depth format that has this code.
+    pub fn from_d3d(format: u32) -> PackedDepthCode
+        ensures { λ r. ⌜ StandsFor format r ⌝ }
+    {
+        match format {
+            D3DFMT_D16 => PackedDepthCode::Depth(PackedDepth::D16),
+            D3DFMT_D24X8 => PackedDepthCode::Depth(PackedDepth::D24X8),
+            D3DFMT_D24S8 => PackedDepthCode::Depth(PackedDepth::D24S8),
+            _ => PackedDepthCode::Other,
+        }
+    }
+
+    // Packed bytes per pixel.
+    pub fn bytes_per_pixel(self) -> usize
+        ensures { λ r. ⌜ r ≡ bytesOf (formatCode self) ⌝ }
+    {
+        match self {
+            PackedDepth::D16 => 2,
+            PackedDepth::D24X8 => 4,
+            PackedDepth::D24S8 => 4,
+        }
+    }
+
+    // Whether a second plane carries stencil bytes.
+    pub fn has_stencil(self) -> bool
+        ensures { λ r. ⌜ r ≡ hasStencil (formatCode self) ⌝ }
+    {
+        match self {
+            PackedDepth::D16 => false,
+            PackedDepth::D24X8 => false,
+            PackedDepth::D24S8 => true,
+        }
+    }
+
+    // The depth and the stencil of the pixel at the front of a part of a row.
+    pub fn decode(self, pixel: &[u8]) -> DepthStencil
+        requires { ⌜ bytesOf (formatCode self) ≤ length (now pixel) ⌝ }
+        ensures { λ r. ⌜ r ≡ decoded (formatCode self) (wordAt (formatCode self) (now (pixel .entry)) 0) ⌝ }
+    {
+        match self {
+            PackedDepth::D16 => decode_d16(pixel),
+            PackedDepth::D24X8 => decode_d24x8(pixel),
+            PackedDepth::D24S8 => decode_d24s8(pixel),
+        }
+    }
+
+    // A depth, as the nearest code, and a stencil, packed at the front of a part of a row. A NaN is 0, and D24X8's unused byte is 0.
+    pub fn encode(self, value: DepthStencil, pixel: &mut [u8])
+        requires { ⌜ bytesOf (formatCode self) ≤ length (now pixel) ⌝ }
+        ensures { λ _. ⌜ now (pixel .exit) ≡ sets (now (pixel .entry)) 0 (encoded (formatCode self) value) ⌝ }
+    {
+        match self {
+            PackedDepth::D16 => encode_d16(value, pixel),
+            PackedDepth::D24X8 => encode_d24x8(value, pixel),
+            PackedDepth::D24S8 => encode_d24s8(value, pixel),
+        }
+    }
+}
+
+// D16: the word is the code.
+fn decode_d16(pixel: &[u8]) -> DepthStencil
+    requires { ⌜ 2 ≤ length (now pixel) ⌝ }
+    ensures { λ r. ⌜ r ≡ decoded codes.D16 (wordAt codes.D16 (now (pixel .entry)) 0) ⌝ }
+{
+    DepthStencil {
+        depth: (le16(pixel) as f32) / 65535.0,
+        stencil: 0,
+    }
+}
+
+// D24X8: the code lies below the unused byte.
+fn decode_d24x8(pixel: &[u8]) -> DepthStencil
+    requires { ⌜ 4 ≤ length (now pixel) ⌝ }
+    ensures { λ r. ⌜ r ≡ decoded codes.D24X8 (wordAt codes.D24X8 (now (pixel .entry)) 0) ⌝ }
+{
+    let word = le32(pixel);
+    DepthStencil {
+        depth: ((word % 0x100_0000) as f32) / 16777215.0,
+        stencil: 0,
+    }
+}
+
+// D24S8: the code lies above the stencil byte.
+fn decode_d24s8(pixel: &[u8]) -> DepthStencil
+    requires { ⌜ 4 ≤ length (now pixel) ⌝ }
+    ensures { λ r. ⌜ r ≡ decoded codes.D24S8 (wordAt codes.D24S8 (now (pixel .entry)) 0) ⌝ }
+{
+    let word = le32(pixel);
+    DepthStencil {
+        depth: ((word / 0x100) as f32) / 16777215.0,
+        stencil: (word % 0x100) as u8,
+    }
+}
+
+// n / 2^s to the nearest whole number, a tie to the even one: a half is added, less one where the quotient is even.
+fn nearest_even_shifted(n: u64, s: u32) -> u64
+    requires { ⌜ (n < 4611686018427387904) × (0 < s) × (s < 62) ⌝ }
+    ensures { λ r. ⌜ r ≡ closest n (2 ^ s) ⌝ }
+{
+    let half = 1u64 << (s - 1);
+    (n + (half - 1) + (n >> s) % 2) >> s
+}
+
+// The code of the depth with these bits, where max is the largest code: any pattern will do.
+fn code_of_bits(max: u64, bits: u32) -> u64
+    requires { ⌜ max < 16777216 ⌝ }
+    ensures { λ r. ⌜ r ≡ codeFor max (ofBits binary32 bits) ⌝ }
+{
+    // A NaN, or negative.
+    if bits > 0x7f80_0000 {
+        return 0;
+    }
+    // One and above, the infinity too.
+    if bits >= 0x3f80_0000 {
+        return max;
+    }
+    // Below 2^-25: less than half a step.
+    if bits < 0x3300_0000 {
+        return 0;
+    }
+    let significand = 0x80_0000 + (bits % 0x80_0000) as u64;
+    nearest_even_shifted(significand * max, 150 - bits / 0x80_0000)
+}
+
+// The code of a depth.
+fn code_of(max: u64, depth: f32) -> u64
+    requires { ⌜ max < 16777216 ⌝ }
+    ensures { λ r. ⌜ r ≡ codeFor max depth ⌝ }
+{
+    if depth != depth {
+        return 0;
+    }
+    code_of_bits(max, f32::to_bits(depth))
+}
+
+// D16: the word is the code, and there is no stencil.
+fn encode_d16(value: DepthStencil, pixel: &mut [u8])
+    requires { ⌜ 2 ≤ length (now pixel) ⌝ }
+    ensures { λ _. ⌜ now (pixel .exit) ≡ sets (now (pixel .entry)) 0 (encoded codes.D16 value) ⌝ }
+{
+    put16(pixel, code_of(65535, value.depth) as u16);
+}
+
+// D24X8: the word is the code, which leaves the unused byte 0.
+fn encode_d24x8(value: DepthStencil, pixel: &mut [u8])
+    requires { ⌜ 4 ≤ length (now pixel) ⌝ }
+    ensures { λ _. ⌜ now (pixel .exit) ≡ sets (now (pixel .entry)) 0 (encoded codes.D24X8 value) ⌝ }
+{
+    put32(pixel, code_of(16777215, value.depth) as u32);
+}
+
+// D24S8: the code above the stencil byte.
+fn encode_d24s8(value: DepthStencil, pixel: &mut [u8])
+    requires { ⌜ 4 ≤ length (now pixel) ⌝ }
+    ensures { λ _. ⌜ now (pixel .exit) ≡ sets (now (pixel .entry)) 0 (encoded codes.D24S8 value) ⌝ }
+{
+    let code = code_of(16777215, value.depth) as u32;
+    put32(pixel, code * 0x100 + (value.stencil as u32));
+}
+
+// A depth's four bytes, at byte `at` of a depth plane.
+fn store_depth(plane: &mut [u8], at: usize, depth: f32)
+    requires { ⌜ (at + 4 ≤ length (now plane)) × T (not (isNan depth)) ⌝ }
+    ensures { λ _. ⌜ now (plane .exit) ≡ sets (now (plane .entry)) at (bytes 4 (toBits binary32 depth)) ⌝ }
+{
+    put32(&mut plane[at..], f32::to_bits(depth));
+}
+
+// The depth whose four bytes begin at byte `at` of a depth plane. A NaN's bytes count as 0.
+fn load_depth(plane: &[u8], at: usize) -> f32
+    requires { ⌜ at + 4 ≤ length (now plane) ⌝ }
+    ensures { λ r. ⌜ clamped r ≡ clamped (depthAt (now (plane .entry)) at) ⌝ }
+{
+    let bits = le32(&plane[at..]);
+    if bits % 0x8000_0000 > 0x7f80_0000 {
+        return 0.0;
+    }
+    f32::from_bits(bits)
+}
+
+// Aligned rows of a depth plane and a stencil plane.
+pub struct PlaneLayout {
+    pub width: usize,
+    pub height: usize,
+    pub depth_pitch: usize,
+    pub stencil_pitch: usize,
+}
+
+// A layout that was asked for, or why there is none: refusals 6, 7 and 8 of document 01.
+pub enum PlaneLayoutAnswer {
+    Layout(PlaneLayout),
+    ZeroSize,
+    NoPowerOfTwo,
+    Over64Bits,
+}
+
+// How unpacking and packing reply: refusals 9 to 13 of document 01.
+pub enum DepthReply {
+    Accepted,
+    NotPackedDepth,
+    BadLayout,
+    ShortPacked,
+    ShortDepth,
+    ShortStencil,
+}
+
+impl DepthReply {
+    // Whether the reply is no refusal.
+    pub fn is_accepted(self) -> bool
+        ensures { λ r. ⌜ r ≡ eqb (replyNumber self) 0 ⌝ }
+    {
+        match self {
+            DepthReply::Accepted => true,
+            DepthReply::NotPackedDepth => false,
+            DepthReply::BadLayout => false,
+            DepthReply::ShortPacked => false,
+            DepthReply::ShortDepth => false,
+            DepthReply::ShortStencil => false,
+        }
+    }
+}
+
+// What the tests before a call found: the format of an accepted one, or the refusal.
+pub enum DepthCheck {
+    Depth(PackedDepth),
+    Refused(DepthReply),
+}
+
+// Whether a * b is at most room, where a * b may have more than 64 bits.
+fn fits(a: usize, b: usize, room: usize) -> bool
+    ensures { λ r. ⌜ r ≡ leb (a * b) room ⌝ }
+{
+    if b == 0 {
+        return true;
+    }
+    a <= room / b
+}
+
+// Whether a is a power of two.
+fn is_power_of_two(a: u32) -> bool
+    ensures { λ r. ⌜ r ≡ isPowerOfTwo a ⌝ }
+{
+    u32::count_ones(a) == 1
+}
+
+// An alignment below 4 becomes 4.
+fn at_least_4(alignment: u32) -> u32
+    ensures { λ r. ⌜ r ≡ max 4 alignment ⌝ }
+{
+    if alignment < 4 { 4 } else { alignment }
+}
+
+// n raised to a multiple of alignment.
+fn raise(n: usize, alignment: usize) -> usize
+    requires { ⌜ (0 < alignment) × (n + alignment < limit) ⌝ }
+    ensures { λ r. ⌜ r ≡ raised n alignment ⌝ }
+{
+    (n + (alignment - 1)) / alignment * alignment
+}
+
+impl PlaneLayout {
+    // The layout for a size and an alignment; an alignment below 4 becomes 4.
+    pub fn new(width: u32, height: u32, alignment: u32) -> PlaneLayoutAnswer
+        ensures reply { λ r. ⌜ answerNumber r ≡ layoutRefusal width height alignment ⌝ }
+        ensures layout { λ r. ⌜ answerLayout r ≡ layoutFor width height alignment ⌝ }
+        ensures stands { λ r. ⌜ (answerNumber r ≡ 0 → Stands (answerLayout r)) ⌝ }
+    {
+        if width == 0 {
+            return PlaneLayoutAnswer::ZeroSize;
+        }
+        if height == 0 {
+            return PlaneLayoutAnswer::ZeroSize;
+        }
+        let unit = at_least_4(alignment);
+        if !is_power_of_two(unit) {
+            return PlaneLayoutAnswer::NoPowerOfTwo;
+        }
+        let depth_pitch = raise((width as usize) * 4, unit as usize);
+        let stencil_pitch = raise(width as usize, unit as usize);
+        if !fits(depth_pitch, height as usize, 0xffff_ffff_ffff_ffff) {
+            return PlaneLayoutAnswer::Over64Bits;
+        }
+        if !fits(stencil_pitch, height as usize, 0xffff_ffff_ffff_ffff) {
+            return PlaneLayoutAnswer::Over64Bits;
+        }
+        PlaneLayoutAnswer::Layout(PlaneLayout {
+            width: width as usize,
+            height: height as usize,
+            depth_pitch,
+            stencil_pitch,
+        })
+    }
+
+    // Whether the layout stands: it has a pixel, its pitches hold their rows, and its planes fit 64 bits.
+    fn is_sound(self) -> bool
+        ensures { λ r. ⌜ r ≡ stands self ⌝ }
+    {
+        if self.width == 0 {
+            return false;
+        }
+        if self.height == 0 {
+            return false;
+        }
+        if self.depth_pitch / 4 < self.width {
+            return false;
+        }
+        if self.stencil_pitch < self.width {
+            return false;
+        }
+        if !fits(self.depth_pitch, self.height, 0xffff_ffff_ffff_ffff) {
+            return false;
+        }
+        fits(self.stencil_pitch, self.height, 0xffff_ffff_ffff_ffff)
+    }
+
+    // Whether the packed pitch holds a row, and `len` bytes every row.
+    fn packed_holds(self, kind: PackedDepth, len: usize, pitch: usize) -> bool
+        requires { ⌜ Stands self ⌝ }
+        ensures { λ r. ⌜ r ≡ packedHolds (formatCode kind) self len pitch ⌝ }
+    {
+        let row = self.width * kind.bytes_per_pixel();
+        if pitch < row {
+            return false;
+        }
+        if len < row {
+            return false;
+        }
+        fits(self.height - 1, pitch, len - row)
+    }
+
+    // Whether `len` bytes hold the stencil plane, where the format has one.
+    fn stencil_holds(self, kind: PackedDepth, len: usize) -> bool
+        ensures { λ r. ⌜ r ≡ stencilHolds (formatCode kind) self len ⌝ }
+    {
+        if kind.has_stencil() {
+            fits(self.stencil_pitch, self.height, len)
+        } else {
+            true
+        }
+    }
+
+    // The tests of the layout and of the buffers' lengths, for a packed depth format.
+    fn check_buffers(
+        self,
+        kind: PackedDepth,
+        packed: usize,
+        packed_pitch: usize,
+        depth: usize,
+        stencil: usize,
+    ) -> DepthCheck
+        ensures { λ r. ⌜ Checked (formatCode kind) (refusalOf (formatCode kind) self packed «packed_pitch» depth stencil) r ⌝ }
+    {
+        if !self.is_sound() {
+            return DepthCheck::Refused(DepthReply::BadLayout);
+        }
+        if !self.packed_holds(kind, packed, packed_pitch) {
+            return DepthCheck::Refused(DepthReply::ShortPacked);
+        }
+        if !fits(self.depth_pitch, self.height, depth) {
+            return DepthCheck::Refused(DepthReply::ShortDepth);
+        }
+        if !self.stencil_holds(kind, stencil) {
+            return DepthCheck::Refused(DepthReply::ShortStencil);
+        }
+        DepthCheck::Depth(kind)
+    }
+
+    // The tests before unpacking and packing, from the lengths of the packed buffer and the two planes.
+    fn check(
+        self,
+        format: u32,
+        packed: usize,
+        packed_pitch: usize,
+        depth: usize,
+        stencil: usize,
+    ) -> DepthCheck
+        ensures { λ r. ⌜ Checked format (refusalOf format self packed «packed_pitch» depth stencil) r ⌝ }
+    {
+        match PackedDepth::from_d3d(format) {
+            PackedDepthCode::Other => DepthCheck::Refused(DepthReply::NotPackedDepth),
+            PackedDepthCode::Depth(kind) => self.check_buffers(
+                kind,
+                packed,
+                packed_pitch,
+                depth,
+                stencil,
+            ),
+        }
+    }
+
+    // Each pixel's depth goes to the depth plane, and its stencil, where the format has one, to the stencil plane. Without a stencil
+    // that plane is not written, and it may be empty.
+    pub fn unpack(
+        self,
+        format: u32,
+        packed: &[u8],
+        packed_pitch: usize,
+        depth: &mut [u8],
+        stencil: &mut [u8],
+    ) -> DepthReply
+        ensures reply { λ r. ⌜ replyNumber r ≡ refusalOf format self (length (now (packed .entry))) «packed_pitch» (length (now (depth .entry))) (length (now (stencil .entry))) ⌝ }
+        ensures planes { λ _. ⌜ (now (depth .exit) ≡ unpackedDepth format self (now (packed .entry)) «packed_pitch» (now (depth .entry)) (now (stencil .entry))) × (now (stencil .exit) ≡ unpackedStencil format self (now (packed .entry)) «packed_pitch» (now (depth .entry)) (now (stencil .entry))) ⌝ }
+        ensures restores { λ r. ⌜ (replyNumber r ≡ 0 → KeepsAll format → Restores format self (now (packed .entry)) «packed_pitch» (now (depth .exit)) (now (stencil .exit))) ⌝ }
+        ensures kept { λ _. ⌜ PlanesKept format self (now (depth .entry)) (now (depth .exit)) (now (stencil .entry)) (now (stencil .exit)) ⌝ }
+    {
+        match self.check(
+            format,
+            packed.len(),
+            packed_pitch,
+            depth.len(),
+            stencil.len(),
+        ) {
+            DepthCheck::Refused(reply) => reply,
+            DepthCheck::Depth(kind) => {
+                unpack_rows(self, kind, packed, packed_pitch, depth, stencil);
+                DepthReply::Accepted
+            }
+        }
+    }
+
+    // Each pixel is packed from the depth plane's binary32 number, whatever it is, and the stencil plane's byte, where the format has
+    // a stencil. Without one that plane is not read.
+    pub fn pack(
+        self,
+        format: u32,
+        depth: &[u8],
+        stencil: &[u8],
+        packed: &mut [u8],
+        packed_pitch: usize,
+    ) -> DepthReply
+        ensures reply { λ r. ⌜ replyNumber r ≡ refusalOf format self (length (now (packed .entry))) «packed_pitch» (length (now (depth .entry))) (length (now (stencil .entry))) ⌝ }
+        ensures bytes { λ _. ⌜ now (packed .exit) ≡ packedBuffer format self (now (depth .entry)) (now (stencil .entry)) (now (packed .entry)) «packed_pitch» ⌝ }
+        ensures nearest { λ r. ⌜ (replyNumber r ≡ 0 → NearestCodes format self (now (depth .entry)) (now (packed .exit)) «packed_pitch») ⌝ }
+        ensures kept { λ _. ⌜ SameElsewhere «packed_pitch» (bytesOf format) (self .width) (self .height) (now (packed .entry)) (now (packed .exit)) ⌝ }
+    {
+        match self.check(
+            format,
+            packed.len(),
+            packed_pitch,
+            depth.len(),
+            stencil.len(),
+        ) {
+            DepthCheck::Refused(reply) => reply,
+            DepthCheck::Depth(kind) => {
+                pack_rows(self, kind, depth, stencil, packed, packed_pitch);
+                DepthReply::Accepted
+            }
+        }
+    }
+}
+
+// A row of D16 pixels from byte `from` on, into the depth plane from byte `to` on.
+fn unpack_row_d16(packed: &[u8], from: usize, depth: &mut [u8], to: usize, width: usize)
+    requires { ⌜ (RowIn (length (now packed)) from 2 width) × (RowIn (length (now depth)) to 4 width) ⌝ }
+    ensures { λ _. ⌜ now (depth .exit) ≡ writtenRow to 4 width (λ x. depthBytes codes.D16 (now (packed .entry)) (from + x * 2)) (now (depth .entry)) ⌝ }
+{
+    let mut x: usize = 0;
+    while x < width {
+        let at = from + x * 2;
+        let pixel = decode_d16(&packed[at..]);
+        store_depth(depth, to + x * 4, pixel.depth);
+        x += 1;
+    }
+}
+
+// The same of D24X8.
+fn unpack_row_d24x8(packed: &[u8], from: usize, depth: &mut [u8], to: usize, width: usize)
+    requires { ⌜ (RowIn (length (now packed)) from 4 width) × (RowIn (length (now depth)) to 4 width) ⌝ }
+    ensures { λ _. ⌜ now (depth .exit) ≡ writtenRow to 4 width (λ x. depthBytes codes.D24X8 (now (packed .entry)) (from + x * 4)) (now (depth .entry)) ⌝ }
+{
+    let mut x: usize = 0;
+    while x < width {
+        let at = from + x * 4;
+        let pixel = decode_d24x8(&packed[at..]);
+        store_depth(depth, to + x * 4, pixel.depth);
+        x += 1;
+    }
+}
+
+// The same of D24S8, with the stencils into the stencil plane from byte `at` on.
+fn unpack_row_d24s8(
+    packed: &[u8],
+    from: usize,
+    depth: &mut [u8],
+    to: usize,
+    stencil: &mut [u8],
+    at: usize,
+    width: usize,
+)
+    requires { ⌜ (RowIn (length (now packed)) from 4 width) × (RowIn (length (now depth)) to 4 width) × (RowIn (length (now stencil)) at 1 width) ⌝ }
+    ensures depth { λ _. ⌜ now (depth .exit) ≡ writtenRow to 4 width (λ x. depthBytes codes.D24S8 (now (packed .entry)) (from + x * 4)) (now (depth .entry)) ⌝ }
+    ensures stencil { λ _. ⌜ now (stencil .exit) ≡ writtenRow at 1 width (λ x. stencilBytes codes.D24S8 (now (packed .entry)) (from + x * 4)) (now (stencil .entry)) ⌝ }
+{
+    let mut x: usize = 0;
+    while x < width {
+        let first = from + x * 4;
+        let pixel = decode_d24s8(&packed[first..]);
+        store_depth(depth, to + x * 4, pixel.depth);
+        let place = at + x;
+        stencil[place] = pixel.stencil;
+        x += 1;
+    }
+}
+
+// A row of D16 pixels at byte `to`, from the depths at byte `from` of the depth plane.
+fn pack_row_d16(packed: &mut [u8], to: usize, depth: &[u8], from: usize, width: usize)
+    requires { ⌜ (RowIn (length (now packed)) to 2 width) × (RowIn (length (now depth)) from 4 width) ⌝ }
+    ensures { λ _. ⌜ now (packed .exit) ≡ writtenRow to 2 width (λ x. packedBytes codes.D16 (now (depth .entry)) [] (from + x * 4) 0) (now (packed .entry)) ⌝ }
+{
+    let mut x: usize = 0;
+    while x < width {
+        let value = DepthStencil {
+            depth: load_depth(depth, from + x * 4),
+            stencil: 0,
+        };
+        let first = to + x * 2;
+        encode_d16(value, &mut packed[first..]);
+        x += 1;
+    }
+}
+
+// The same of D24X8.
+fn pack_row_d24x8(packed: &mut [u8], to: usize, depth: &[u8], from: usize, width: usize)
+    requires { ⌜ (RowIn (length (now packed)) to 4 width) × (RowIn (length (now depth)) from 4 width) ⌝ }
+    ensures { λ _. ⌜ now (packed .exit) ≡ writtenRow to 4 width (λ x. packedBytes codes.D24X8 (now (depth .entry)) [] (from + x * 4) 0) (now (packed .entry)) ⌝ }
+{
+    let mut x: usize = 0;
+    while x < width {
+        let value = DepthStencil {
+            depth: load_depth(depth, from + x * 4),
+            stencil: 0,
+        };
+        let first = to + x * 4;
+        encode_d24x8(value, &mut packed[first..]);
+        x += 1;
+    }
+}
+
+// The same of D24S8, with the stencils at byte `at` of the stencil plane.
+fn pack_row_d24s8(
+    packed: &mut [u8],
+    to: usize,
+    depth: &[u8],
+    from: usize,
+    stencil: &[u8],
+    at: usize,
+    width: usize,
+)
+    requires { ⌜ (RowIn (length (now packed)) to 4 width) × (RowIn (length (now depth)) from 4 width) × (RowIn (length (now stencil)) at 1 width) ⌝ }
+    ensures { λ _. ⌜ now (packed .exit) ≡ writtenRow to 4 width (λ x. packedBytes codes.D24S8 (now (depth .entry)) (now (stencil .entry)) (from + x * 4) (at + x * 1)) (now (packed .entry)) ⌝ }
+{
+    let mut x: usize = 0;
+    while x < width {
+        let value = DepthStencil {
+            depth: load_depth(depth, from + x * 4),
+            stencil: stencil[at + x],
+        };
+        let first = to + x * 4;
+        encode_d24s8(value, &mut packed[first..]);
+        x += 1;
+    }
+}
+
+impl PackedDepth {
+    // A row of packed pixels from byte `from` on, into the depth plane from byte `to` on and the stencil plane from byte `at` on.
+    fn unpack_row(
+        self,
+        packed: &[u8],
+        from: usize,
+        depth: &mut [u8],
+        to: usize,
+        stencil: &mut [u8],
+        at: usize,
+        width: usize,
+    )
+        requires { ⌜ (RowIn (length (now packed)) from (bytesOf (formatCode self)) width) × (RowIn (length (now depth)) to 4 width) × (hasStencil (formatCode self) ≡ true → RowIn (length (now stencil)) at 1 width) ⌝ }
+        ensures depth { λ _. ⌜ now (depth .exit) ≡ depthRow (formatCode self) (now (packed .entry)) from to width (now (depth .entry)) ⌝ }
+        ensures stencil { λ _. ⌜ now (stencil .exit) ≡ stencilRow (formatCode self) (now (packed .entry)) from at width (now (stencil .entry)) ⌝ }
+    {
+        match self {
+            PackedDepth::D16 => unpack_row_d16(packed, from, depth, to, width),
+            PackedDepth::D24X8 => unpack_row_d24x8(packed, from, depth, to, width),
+            PackedDepth::D24S8 => unpack_row_d24s8(packed, from, depth, to, stencil, at, width),
+        }
+    }
+
+    // The same way back.
+    fn pack_row(
+        self,
+        packed: &mut [u8],
+        to: usize,
+        depth: &[u8],
+        from: usize,
+        stencil: &[u8],
+        at: usize,
+        width: usize,
+    )
+        requires { ⌜ (RowIn (length (now packed)) to (bytesOf (formatCode self)) width) × (RowIn (length (now depth)) from 4 width) × (hasStencil (formatCode self) ≡ true → RowIn (length (now stencil)) at 1 width) ⌝ }
+        ensures { λ _. ⌜ now (packed .exit) ≡ packedRow (formatCode self) (now (depth .entry)) (now (stencil .entry)) from at to width (now (packed .entry)) ⌝ }
+    {
+        match self {
+            PackedDepth::D16 => pack_row_d16(packed, to, depth, from, width),
+            PackedDepth::D24X8 => pack_row_d24x8(packed, to, depth, from, width),
+            PackedDepth::D24S8 => pack_row_d24s8(packed, to, depth, from, stencil, at, width),
+        }
+    }
+}
+
+// Every row of a picture whose buffers were tested.
+fn unpack_rows(
+    layout: PlaneLayout,
+    kind: PackedDepth,
+    packed: &[u8],
+    packed_pitch: usize,
+    depth: &mut [u8],
+    stencil: &mut [u8],
+)
+    requires { ⌜ Accepts (formatCode kind) layout (length (now packed)) «packed_pitch» (length (now depth)) (length (now stencil)) ⌝ }
+    ensures depth { λ _. ⌜ now (depth .exit) ≡ depthPlane (formatCode kind) layout (now (packed .entry)) «packed_pitch» (now (depth .entry)) ⌝ }
+    ensures stencil { λ _. ⌜ now (stencil .exit) ≡ stencilPlane (formatCode kind) layout (now (packed .entry)) «packed_pitch» (now (stencil .entry)) ⌝ }
+{
+    let width = layout.width;
+    let height = layout.height;
+    let depth_pitch = layout.depth_pitch;
+    let stencil_pitch = layout.stencil_pitch;
+    let mut y: usize = 0;
+    while y < height {
+        let from = y * packed_pitch;
+        let to = y * depth_pitch;
+        let at = y * stencil_pitch;
+        kind.unpack_row(packed, from, depth, to, stencil, at, width);
+        y += 1;
+    }
+}
+
+// Every row of a picture whose buffers were tested.
+fn pack_rows(
+    layout: PlaneLayout,
+    kind: PackedDepth,
+    depth: &[u8],
+    stencil: &[u8],
+    packed: &mut [u8],
+    packed_pitch: usize,
+)
+    requires { ⌜ Accepts (formatCode kind) layout (length (now packed)) «packed_pitch» (length (now depth)) (length (now stencil)) ⌝ }
+    ensures { λ _. ⌜ now (packed .exit) ≡ packedPixels (formatCode kind) layout (now (depth .entry)) (now (stencil .entry)) «packed_pitch» (now (packed .entry)) ⌝ }
+{
+    let width = layout.width;
+    let height = layout.height;
+    let depth_pitch = layout.depth_pitch;
+    let stencil_pitch = layout.stencil_pitch;
+    let mut y: usize = 0;
+    while y < height {
+        let to = y * packed_pitch;
+        let from = y * depth_pitch;
+        let at = y * stencil_pitch;
+        kind.pack_row(packed, to, depth, from, stencil, at, width);
+        y += 1;
+    }
+}
+
+// THE ROUND TRIP: unpacking, and then packing the planes into another buffer with a pitch of its own, puts back every pixel. It rests on
+// what `unpack` and `pack` promise alone.
+pub fn restore(
+    layout: PlaneLayout,
+    format: u32,
+    packed: &[u8],
+    packed_pitch: usize,
+    depth: &mut [u8],
+    stencil: &mut [u8],
+    out: &mut [u8],
+    out_pitch: usize,
+) -> DepthReply
+    ensures reply { λ r. ⌜ replyNumber r ≡ firstRefusal (refusalOf format layout (length (now (packed .entry))) «packed_pitch» (length (now (depth .entry))) (length (now (stencil .entry)))) (refusalOf format layout (length (now (out .entry))) «out_pitch» (length (now (depth .entry))) (length (now (stencil .entry)))) ⌝ }
+    ensures planes { λ _. ⌜ (now (depth .exit) ≡ unpackedDepth format layout (now (packed .entry)) «packed_pitch» (now (depth .entry)) (now (stencil .entry))) × (now (stencil .exit) ≡ unpackedStencil format layout (now (packed .entry)) «packed_pitch» (now (depth .entry)) (now (stencil .entry))) ⌝ }
+    ensures bytes { λ _. ⌜ now (out .exit) ≡ ifAccepted (refusalOf format layout (length (now (packed .entry))) «packed_pitch» (length (now (depth .entry))) (length (now (stencil .entry)))) (packedBuffer format layout (now (depth .exit)) (now (stencil .exit)) (now (out .entry)) «out_pitch») (now (out .entry)) ⌝ }
+    ensures restores { λ r. ⌜ (replyNumber r ≡ 0 → KeepsAll format → SamePixels format layout (now (packed .entry)) «packed_pitch» (now (out .exit)) «out_pitch») ⌝ }
+{
+    let reply = layout.unpack(format, packed, packed_pitch, depth, stencil);
+    if reply.is_accepted() {
+        layout.pack(format, depth, stencil, out, out_pitch)
+    } else {
+        reply
+    }
+}
