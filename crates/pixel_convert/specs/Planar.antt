@@ -1,5 +1,6 @@
 -- The places of a planar texel, step by step: is there a layout, has it the texel, are luma, U and V within a length. Assumes nothing.
 use mathlib.Core.Path.{_≡_, refl, sym, ap, _∙_, subst}
+use mathlib.Core.Logic.{_⊎_, inl, inr}
 use mathlib.Core.Bool.{Bool, true, false, _&&_, false≢true}
 use mathlib.Core.List.{List, [], _∷_}
 use Prim.Native.Nat.{ℕ, _+_, _*_, _/_, _%_, _≤_, _<_}
@@ -120,3 +121,15 @@ module _ (len f pitch rows y x : ℕ) where
 pub absent-out : (len : ℕ) (p : Places) → p ≡ absent → false ≡ placesIn len p
 unfolding placesIn
 absent-out len p e = sym (ap (placesIn len) e)
+
+-- l is where the texels of a planar picture lie, those that lie anywhere
+abbrev pub LayoutFor : (f pitch rows : ℕ) → PlanarYuvLayout → Type 0
+LayoutFor f pitch rows l = (y x : ℕ) → (planarPlaces f pitch rows y x ≡ absent) ⊎ (Legal l × (planarPlaces f pitch rows y x ≡ layoutPlaces f (l .pitch) (l .«luma_rows») y x))
+
+-- so a texel within a length lies in it
+pub laid-out : (len f pitch rows : ℕ) (l : PlanarYuvLayout) → LayoutFor f pitch rows l → (y x : ℕ) → placesIn len (planarPlaces f pitch rows y x) ≡ true
+    → Legal l × (planarPlaces f pitch rows y x ≡ layoutPlaces f (l .pitch) (l .«luma_rows») y x)
+laid-out len f pitch rows l h y x i = elim (h y x) [
+  | inl none ↦ absurd (false≢true (absent-out len (planarPlaces f pitch rows y x) none ∙ i))
+  | inr some ↦ some
+]

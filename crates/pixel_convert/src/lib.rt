@@ -17,6 +17,7 @@ ghost use Rattle.pixel_convert.specs.Places.{isPicture, texelStart, layo
 ghost use Rattle.pixel_convert.specs.Rooms.{remainingAfter};
 ghost use Rattle.pixel_convert.specs.Regions.{opaqueOf, texelOf, texelAt, canConvertUpdate, canConvert, badPlanarShape, convertReply, rowWritten, sliceWritten, regionWritten, convertedBytes, NearSource, OthersKept};
 ghost use Rattle.pixel_convert.specs.Rows.{RowFits};
+ghost use Rattle.pixel_convert.specs.Planar.{LayoutFor};
 use formats::D3DFMT_A8R8G8B8;
 use formats::D3DFMT_YV12;
 use planar_yuv::PlanarYuvAnswer;
@@ -189,14 +190,15 @@ fn decode_a8l8(v: u16) -> Texel
 }
 
 // Four 16-bit channels, each the nearest byte.
-fn decode_a16b16g16r16(v: u64) -> Texel
-    ensures { λ r. ⌜ r ≡ decodedOf 36 v ⌝ }
+fn decode_a16b16g16r16(px: &[u8]) -> Texel
+    requires { ⌜ 8 ≤ length (now px) ⌝ }
+    ensures { λ r. ⌜ r ≡ decodedOf 36 (number (take 8 (now (px .entry)))) ⌝ }
 {
     Texel {
-        r: channels::unorm16_to_unorm8((v % 65536) as u16),
-        g: channels::unorm16_to_unorm8((v / 65536 % 65536) as u16),
-        b: channels::unorm16_to_unorm8((v / 4294967296 % 65536) as u16),
-        a: channels::unorm16_to_unorm8((v / 281474976710656) as u16),
+        r: channels::unorm16_to_unorm8(words::le16(px)),
+        g: channels::unorm16_to_unorm8(words::le16(&px[2..])),
+        b: channels::unorm16_to_unorm8(words::le16(&px[4..])),
+        a: channels::unorm16_to_unorm8(words::le16(&px[6..])),
     }
 }
 
@@ -229,7 +231,7 @@ fn decode_pixel(d3d_format: u32, px: &[u8]) -> Texel
         28 => decode_a8(words::le8(px)),
         32 => decode_a8b8g8r8(words::le32(px)),
         33 => decode_x8b8g8r8(words::le32(px)),
-        36 => decode_a16b16g16r16(words::le64(px)),
+        36 => decode_a16b16g16r16(px),
         50 => decode_l8(words::le8(px)),
         51 => decode_a8l8(words::le16(px)),
         116 => decode_a32b32g32r32f(px),
@@ -533,40 +535,30 @@ fn opaque(p: Rgb) -> Texel
     }
 }
 
-fn fetch_planar(
-    src: &[u8],
-    d3d_format: u32,
-    pitch: usize,
-    slice_pitch: usize,
-    y: usize,
-    x: usize,
-) -> Texel
-    requires { ⌜ (isPlanarYuv «d3d_format» ≡ true) × (placesIn (length (now src)) (planarPlaces «d3d_format» pitch («slice_pitch» / pitch) y x) ≡ true) ⌝ }
-    ensures { λ r. ⌜ r ≡ texelOf «d3d_format» (eqb (x % 2) 1) (bytesAt (now (src .entry)) (planarPlaces «d3d_format» pitch («slice_pitch» / pitch) y x)) ⌝ }
+// The layout of a planar source: zeros where it has none.
+fn source_layout(d3d_format: u32, pitch: usize, slice_pitch: usize) -> PlanarYuvLayout
+    ensures { λ r. ⌜ LayoutFor «d3d_format» pitch («slice_pitch» / pitch) r ⌝ }
 {
+    let none = PlanarYuvLayout {
+        pitch: 0,
+        luma_rows: 0,
+        chroma_rows: 0,
+        total_bytes: 0,
+    };
     if pitch == 0 {
-        return Texel {
-            r: 0,
-            g: 0,
-            b: 0,
-            a: 0xff,
-        };
+        return none;
     }
     match planar_yuv::planar_yuv_layout_from_pitch(d3d_format, pitch, slice_pitch / pitch) {
-        PlanarYuvAnswer::Refused => Texel {
-            r: 0,
-            g: 0,
-            b: 0,
-            a: 0xff,
-        },
-        PlanarYuvAnswer::Layout(layout) => opaque(stretch_rect::decode_planar_yuv(
-            d3d_format,
-            src,
-            layout,
-            x,
-            y,
-        )),
+        PlanarYuvAnswer::Refused => none,
+        PlanarYuvAnswer::Layout(layout) => layout,
     }
+}
+
+fn fetch_planar(src: &[u8], d3d_format: u32, layout: PlanarYuvLayout, y: usize, x: usize) -> Texel
+    requires { ⌜ (isPlanarYuv «d3d_format» ≡ true) × (Legal layout) × (placesIn (length (now src)) (layoutPlaces «d3d_format» (layout .pitch) (layout .«luma_rows») y x) ≡ true) ⌝ }
+    ensures { λ r. ⌜ r ≡ texelOf «d3d_format» (eqb (x % 2) 1) (bytesAt (now (src .entry)) (layoutPlaces «d3d_format» (layout .pitch) (layout .«luma_rows») y x)) ⌝ }
+{
+    opaque(stretch_rect::decode_planar_yuv(d3d_format, src, layout, x, y))
 }
 
 // A texel of a macropixel, which is lent from its first byte on.
@@ -577,22 +569,23 @@ fn fetch_packed(macropixel: &[u8], d3d_format: u32, x: usize) -> Texel
     opaque(stretch_rect::decode_packed_yuv(d3d_format, macropixel, x % 2 == 1))
 }
 
-// The texel at slice z, row y and column x; `size` is its format's bytes.
+// The texel at slice z, row y and column x; `size` is its format's bytes and `layout` a planar source's.
 fn fetch(
     src: &[u8],
     d3d_format: u32,
     size: usize,
+    layout: PlanarYuvLayout,
     pitch: usize,
     slice_pitch: usize,
     z: usize,
     y: usize,
     x: usize,
 ) -> Texel
-    requires { ⌜ (isPicture «d3d_format» ≡ true) × (size ≡ bytesOf «d3d_format») × (placesIn (length (now src)) (placesAt «d3d_format» pitch «slice_pitch» z y x) ≡ true) ⌝ }
+    requires { ⌜ (isPicture «d3d_format» ≡ true) × (size ≡ bytesOf «d3d_format») × (LayoutFor «d3d_format» pitch («slice_pitch» / pitch) layout) × (placesIn (length (now src)) (placesAt «d3d_format» pitch «slice_pitch» z y x) ≡ true) ⌝ }
     ensures { λ r. ⌜ r ≡ texelAt (now (src .entry)) «d3d_format» pitch «slice_pitch» z y x ⌝ }
 {
     if formats::is_planar_yuv(d3d_format) {
-        return fetch_planar(src, d3d_format, pitch, slice_pitch, y, x);
+        return fetch_planar(src, d3d_format, layout, y, x);
     }
     if formats::is_packed_yuv(d3d_format) {
         let at = z * slice_pitch + y * pitch + x / 2 * 4;
@@ -646,9 +639,10 @@ fn convert_row(
     let width = region.width as usize;
     let from_size = formats::bytes_per_texel(src_format);
     let to_size = formats::bytes_per_texel(dst_format);
+    let layout = source_layout(src_format, sp, ss);
     let mut col: usize = 0;
     while col < width {
-        let t = fetch(src, src_format, from_size, sp, ss, z, sy, sx + col);
+        let t = fetch(src, src_format, from_size, layout, sp, ss, z, sy, sx + col);
         store(dst, dst_format, to_size, dp, ds, z, dy, dx + col, t);
         col += 1;
     }

@@ -19,17 +19,17 @@ use Rattle.pixel_convert.proofs.convert_row.Statement.{statement}
 use Rattle.pixel_convert.proofs.convert_row.Tie as tie
 
 abbrev Inv-loop : tie.InvT-loop
-Inv-loop dst₀ dst-format src src-format z row sx dx sy dy sp dp ss ds width from-size to-size col₀ dst col =
+Inv-loop dst₀ dst-format src src-format z row sx dx sy dy sp dp ss ds width from-size to-size layout col₀ dst col =
     (dst ≡ iterate (λ k l. sets l (texelStart dp ds (bytesOf dst-format) z dy (dx + k)) (encodedBytes dst-format (texelAt src src-format sp ss z sy (sx + k)))) col dst₀) × (length dst ≡ length dst₀) × (col ≤ width)
 
 abbrev μ-loop : tie.MeasureT-loop
-μ-loop dst₀ dst-format src src-format z row sx dx sy dy sp dp ss ds width from-size to-size col₀ dst col = width - col
+μ-loop dst₀ dst-format src src-format z row sx dx sy dy sp dp ss ds width from-size to-size layout col₀ dst col = width - col
 
 abbrev In : Type 0
 In = tie.In-loop Inv-loop μ-loop
 
 abbrev start : In → tie.Start Inv-loop μ-loop
-start c = c .before .before .before .before .before .before .before .before .before .before .before
+start c = c .before .before .before .before .before .before .before .before .before .before .before .before
 
 -- this turn's texel lies within each buffer
 source : (c : In) → TexelFits (length (now (start c .args .src))) (start c .args .src-format) (start c .args .region .«src_pitch») (start c .args .region .«src_slice_pitch») (start c .args .z) (start c .args .region .«src_y» + start c .args .row) (start c .args .region .«src_x» + c .before .loop .col)
@@ -62,6 +62,9 @@ bytes-per-texel-requires c κs = search needs
 bytes-per-texel-requires-2 : tie.Need-bytes-per-texel-requires-2 Inv-loop μ-loop
 bytes-per-texel-requires-2 c κs = search needs
 
+source-layout-requires : tie.Need-source-layout-requires Inv-loop μ-loop
+source-layout-requires c κs = search needs
+
 loop-holds : tie.Need-loop-holds Inv-loop μ-loop
 loop-holds c = (sym (iterate-zero _ _), refl, search needs)
 
@@ -69,7 +72,7 @@ add-fetch : tie.Need-add-fetch Inv-loop μ-loop
 add-fetch c = omega (arith, source c .column)
 
 fetch-requires : tie.Need-fetch-requires Inv-loop μ-loop
-fetch-requires c κs = (start c .pre .picture, c .before .before .before .bytes-per-texel .ensures, source c .places)
+fetch-requires c κs = (start c .pre .picture, c .before .before .before .before .bytes-per-texel .ensures, c .before .before .source-layout .ensures, source c .places)
 
 add-store : tie.Need-add-store Inv-loop μ-loop
 add-store c = omega (arith, start (c .before .before) .pre .columns (c .before .before .before .loop .col) (c .before .before .loop-test .taken))
@@ -78,7 +81,7 @@ store-requires : tie.Need-store-requires Inv-loop μ-loop
 unfolding toAt
 store-requires c κs =
     let i = c .before .before in
-    (start i .pre .rgb, i .before .before .bytes-per-texel2 .ensures, subst (λ (m : ℕ). toAt (start i .args .dst-format) (start i .args .region) (start i .args .z) (start i .args .row) (i .before .loop .col) + bytesOf (start i .args .dst-format) ≤ m) (sym (i .before .loop .inv .1)) (start i .pre .destination (i .before .loop .col) (i .loop-test .taken)))
+    (start i .pre .rgb, i .before .before .before .bytes-per-texel2 .ensures, subst (λ (m : ℕ). toAt (start i .args .dst-format) (start i .args .region) (start i .args .z) (start i .args .row) (i .before .loop .col) + bytesOf (start i .args .dst-format) ≤ m) (sym (i .before .loop .inv .1)) (start i .pre .destination (i .before .loop .col) (i .loop-test .taken)))
 
 add-col : tie.Need-add-col Inv-loop μ-loop
 add-col c = omega (arith, source (c .before .before .before .before .before) .column)
@@ -126,6 +129,7 @@ convert-row-spec =
     cast-width
     bytes-per-texel-requires
     bytes-per-texel-requires-2
+    source-layout-requires
     loop-holds
     add-fetch
     fetch-requires

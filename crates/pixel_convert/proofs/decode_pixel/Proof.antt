@@ -81,12 +81,9 @@ le32-requires-4 c κs = omega (arith, c .before .before .pre .1, ap bytesOf (c .
 decode-x8b8g8r8-requires : tie.Need-decode-x8b8g8r8-requires
 decode-x8b8g8r8-requires c κs = search needs
 
-le64-requires : tie.Need-le64-requires
-unfolding bytesOf partsOf
-le64-requires c κs = omega (arith, c .before .before .pre .1, ap bytesOf (c .match .keys11))
-
 decode-a16b16g16r16-requires : tie.Need-decode-a16b16g16r16-requires
-decode-a16b16g16r16-requires c κs = search needs
+unfolding bytesOf partsOf
+decode-a16b16g16r16-requires c κs = omega (arith, c .before .before .pre .1, ap bytesOf (c .match .keys11))
 
 le8-requires-2 : tie.Need-le8-requires-2
 unfolding bytesOf partsOf
@@ -148,7 +145,7 @@ returns-10 c = decode-arm _ 33 4 _ _ _ (c .before .before .match .keys10) refl (
 
 returns-11 : tie.Need-returns-11
 unfolding bytesOf partsOf
-returns-11 c = decode-arm _ 36 8 _ _ _ (c .before .before .match .keys11) refl (c .before .le64 .ensures) (c .decode-a16b16g16r16 .ensures)
+returns-11 c = decode-arm _ 36 8 _ _ _ (c .before .match .keys11) refl refl (c .decode-a16b16g16r16 .ensures)
 
 returns-12 : tie.Need-returns-12
 unfolding bytesOf partsOf
@@ -194,7 +191,6 @@ decode-pixel-spec =
     decode-a8b8g8r8-requires
     le32-requires-4
     decode-x8b8g8r8-requires
-    le64-requires
     decode-a16b16g16r16-requires
     le8-requires-2
     decode-l8-requires

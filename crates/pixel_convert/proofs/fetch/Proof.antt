@@ -12,7 +12,9 @@ use Rattle.words.specs.Slices.{part-read}
 use Rattle.formats.specs.Table.{bytesOf}
 use Rattle.formats.specs.Classes.{isPackedYuv, isPlanarYuv}
 use Rattle.pixel_convert.specs.Texels.{isLaneSource, decodedOf}
-use Rattle.pixel_convert.specs.Places.{texelStart, placesIn}
+use Rattle.planar_yuv.specs.Answers.{Legal}
+use Rattle.pixel_convert.specs.Places.{texelStart, planarPlaces, layoutPlaces, placesIn, bytesAt}
+use Rattle.pixel_convert.specs.Planar.{laid-out}
 use Rattle.pixel_convert.specs.Inside.{planar-places}
 use Rattle.pixel_convert.specs.Regions.{texelOf}
 use Rattle.pixel_convert.specs.Fetch.{lanes-left, lane-some, lane-ends, packed-ends, lane-texel, packed-texel, planar-texel}
@@ -37,7 +39,7 @@ packed-in : (c : tie.Then2) → texelStart (c .before .before .before .before .b
 packed-in c =
     let s = c .before .before .before .before .before in
     let g = s .args in
-    packed-ends (length (now (g .src))) (g .d3d-format) (g .pitch) (g .slice-pitch) (g .z) (g .y) (g .x) (s .pre .2) (not-planar (c .before .before)) (packed c)
+    packed-ends (length (now (g .src))) (g .d3d-format) (g .pitch) (g .slice-pitch) (g .z) (g .y) (g .x) (s .pre .3) (not-planar (c .before .before)) (packed c)
 
 lanes : (c : tie.Else2) → isLaneSource (c .before .before .before .before .before .args .d3d-format) ≡ true
 lanes c = lanes-left _ (c .before .before .before .before .before .pre .0) (not-planar (c .before .before)) (not-packed c)
@@ -47,7 +49,7 @@ lane-in : (c : tie.Else2) → texelStart (c .before .before .before .before .bef
 lane-in c =
     let s = c .before .before .before .before .before in
     let g = s .args in
-    lane-ends (length (now (g .src))) (g .d3d-format) (g .pitch) (g .slice-pitch) (g .z) (g .y) (g .x) (s .pre .2) (not-planar (c .before .before)) (not-packed c) (lane-some (g .d3d-format) (lanes c))
+    lane-ends (length (now (g .src))) (g .d3d-format) (g .pitch) (g .slice-pitch) (g .z) (g .y) (g .x) (s .pre .3) (not-planar (c .before .before)) (not-packed c) (lane-some (g .d3d-format) (lanes c))
 
 ends : (c : tie.Else2) → c .before .before .before .before .before .args .z * c .before .before .before .before .before .args .slice-pitch + c .before .before .before .before .before .args .y * c .before .before .before .before .before .args .pitch + c .before .before .before .before .before .args .x * c .before .before .before .before .before .args .size + c .before .before .before .before .before .args .size ≤ length (now (c .before .before .before .before .before .args .src))
 unfolding texelStart
@@ -59,18 +61,27 @@ ends c =
 is-planar-yuv-requires : tie.Need-is-planar-yuv-requires
 is-planar-yuv-requires c κs = search needs
 
+in-layout : (c : tie.Then1) → Legal (c .before .before .before .args .layout) × (planarPlaces (c .before .before .before .args .d3d-format) (c .before .before .before .args .pitch) (c .before .before .before .args .slice-pitch / c .before .before .before .args .pitch) (c .before .before .before .args .y) (c .before .before .before .args .x) ≡ layoutPlaces (c .before .before .before .args .d3d-format) (c .before .before .before .args .layout .pitch) (c .before .before .before .args .layout .«luma_rows») (c .before .before .before .args .y) (c .before .before .before .args .x))
+in-layout c =
+    let s = c .before .before .before in
+    let g = s .args in
+    laid-out (length (now (g .src))) (g .d3d-format) (g .pitch) (g .slice-pitch / g .pitch) (g .layout) (s .pre .2) (g .y) (g .x)
+    (sym (ap (placesIn (length (now (g .src)))) (planar-places (g .d3d-format) (g .pitch) (g .slice-pitch) (g .z) (g .y) (g .x) (planar c))) ∙ s .pre .3)
+
 fetch-planar-requires : tie.Need-fetch-planar-requires
 fetch-planar-requires c κs =
     let s = c .before .before .before in
     let g = s .args in
-    let p = planar c in
-    (p, sym (ap (placesIn (length (now (g .src)))) (planar-places (g .d3d-format) (g .pitch) (g .slice-pitch) (g .z) (g .y) (g .x) p)) ∙ s .pre .2)
+    let l = in-layout c in
+    (planar c, l .0, sym (ap (placesIn (length (now (g .src)))) (planar-places (g .d3d-format) (g .pitch) (g .slice-pitch) (g .z) (g .y) (g .x) (planar c) ∙ l .1)) ∙ s .pre .3)
 
 returns : tie.Need-returns
 returns c =
     let t = c .before in
     let g = t .before .before .before .args in
-    c .fetch-planar .ensures ∙ sym (planar-texel (now (g .src)) (g .d3d-format) (g .pitch) (g .slice-pitch) (g .z) (g .y) (g .x) (planar t))
+    c .fetch-planar .ensures
+    ∙ sym (ap (λ p. texelOf (g .d3d-format) (eqb (g .x % 2) 1) (bytesAt (now (g .src)) p)) (in-layout t .1))
+    ∙ sym (planar-texel (now (g .src)) (g .d3d-format) (g .pitch) (g .slice-pitch) (g .z) (g .y) (g .x) (planar t))
 
 is-packed-yuv-requires : tie.Need-is-packed-yuv-requires
 is-packed-yuv-requires c κs = search needs
