@@ -3,16 +3,16 @@
  * An altered version of parts of mtld3d (https://github.com/athei/mtld3d), see NOTICE. Format codes are D3DFORMAT's.
  *
  * A uint32_t reply is 0 where the call was accepted, else the number of the refusal; where several apply, the lowest.
- * Refused, a call leaves every lent byte (dst, depth, stencil, packed) as it was. Arrays in which values are handed back
- * (bytes, length, layout) are then all zero. No call keeps a pointer, allocates, or reads or writes outside what it was lent.
+ * Refused, a call leaves every lent byte (of dst, depth, stencil, packed) as it was; where values are handed back
+ * (bytes, length, layout) it puts zeros. No call keeps a pointer, or reads or writes outside what it was lent.
  *
  * What the caller owes, since no contract of the library can cover it:
- *   - No pointer is null, not even with length 0. A pointer that comes with length 0 is neither read nor written through,
- *     and may be any other value: the address of any object will do.
- *   - A pointer and its length stand for that many initialised bytes of one object, for the whole call; a pointer to an
- *     array stands for all of the array, aligned for its type. What is only handed back need not be initialised.
- *   - A buffer that a call may write (a pointer that is not const) overlaps no other buffer of the same call.
- *   - Nothing else, as another thread, writes what a call reads, or reads or writes what it writes, until it returns.
+ *   - No pointer is null, not even with length 0. A pointer that comes with length 0 is neither read nor written
+ *     through: it may be the address of any object.
+ *   - A pointer and its length stand for that many initialised bytes of one object; a pointer to an array, or to
+ *     length, stands for all of it, initialised and aligned for its type.
+ *   - A buffer that a call may write (a pointer that is not const) overlaps no other buffer of that call.
+ *   - Until a call returns, nothing else writes what it was lent, or reads what it may write.
  */
 #ifndef WENTUQIS_H
 #define WENTUQIS_H
@@ -37,8 +37,8 @@ enum {
     /* wentuqis_convert_region */
     WENTUQIS_UNSUPPORTED_PAIR = 1,    /* wentuqis_can_convert is false for the two formats */
     WENTUQIS_PLANAR_SHAPE = 2,        /* planar source: depth not 1, source pitch 0, or slice pitch no multiple of it */
-    WENTUQIS_SOURCE_OUTSIDE = 3,      /* a texel lies outside the source or its planar layout, or its column or row is above 4294967295 */
-    WENTUQIS_DESTINATION_OUTSIDE = 4, /* a texel lies outside the destination, or its column or row is above 4294967295 */
+    WENTUQIS_SOURCE_OUTSIDE = 3,      /* a texel outside src or its planar layout, or a column or row past 32 bits */
+    WENTUQIS_DESTINATION_OUTSIDE = 4, /* a texel outside dst, or a column or row past 32 bits */
     /* wentuqis_d3dcolor_fill_pixel_bytes */
     WENTUQIS_NO_FILL = 5, /* this format has no fill */
     /* wentuqis_plane_layout */
@@ -47,7 +47,7 @@ enum {
     WENTUQIS_OVER_64_BITS = 8,    /* pitch times height of a plane exceeds 64 bits */
     /* wentuqis_unpack, wentuqis_pack */
     WENTUQIS_NOT_PACKED_DEPTH = 9, /* a format other than D16, D24X8 and D24S8 */
-    WENTUQIS_BAD_LAYOUT = 10,      /* a zero size, depth pitch below 4 x width, stencil pitch below width, or a plane over 64 bits */
+    WENTUQIS_BAD_LAYOUT = 10,      /* a zero size, a pitch below a row of its plane, or a plane over 64 bits */
     WENTUQIS_SHORT_PACKED = 11,    /* packed pitch below a row, or packed shorter than (height - 1) x pitch + row */
     WENTUQIS_SHORT_DEPTH = 12,     /* depth shorter than depth pitch x height */
     WENTUQIS_SHORT_STENCIL = 13,   /* stencil shorter than stencil pitch x height; D24S8 only */

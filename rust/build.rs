@@ -1,6 +1,6 @@
-//! Links `libwentuqis.a` from the folder in `WENTUQIS_LIB_DIR`, else from `target/staticlib` beside
-//! this crate. A relative folder counts from this crate's own. Without the archive the build ends
-//! with one line that says how to make it.
+//! Links `libwentuqis.a` from the folder in `WENTUQIS_LIB_DIR`, else from `../target/staticlib`. A
+//! relative folder counts from this crate's own. Without the archive the build ends with one line
+//! that says how to make it.
 
 use std::env;
 use std::path::{Path, PathBuf};
@@ -9,9 +9,15 @@ const ARCHIVE: &str = "libwentuqis.a";
 
 fn main() {
     println!("cargo::rerun-if-env-changed=WENTUQIS_LIB_DIR");
-    let target = format!("{}-{}", var("CARGO_CFG_TARGET_ARCH"), var("CARGO_CFG_TARGET_OS"));
+    let target = format!(
+        "{}-{}",
+        var("CARGO_CFG_TARGET_ARCH"),
+        var("CARGO_CFG_TARGET_OS")
+    );
     if target != "x86_64-linux" {
-        println!("cargo::error={ARCHIVE} is made for x86-64 Linux only, and this build is for {target}");
+        println!(
+            "cargo::error={ARCHIVE} is made for x86-64 Linux only, and this build is for {target}"
+        );
         return;
     }
     let folder = library_folder();

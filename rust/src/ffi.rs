@@ -7,7 +7,7 @@
 use crate::depth_texture::PlaneLayout;
 use crate::pixel_convert::ConvertRegion;
 
-// SAFETY: the names and types are those of include/wentuqis.h. A `safe` call takes numbers, or references to whole arrays that the library only writes.
+// SAFETY: as include/wentuqis.h declares them; a `safe` call takes only numbers and whole arrays.
 unsafe extern "C" {
     pub(crate) safe fn wentuqis_can_convert(src_format: u32, dst_format: u32) -> bool;
     pub(crate) safe fn wentuqis_can_convert_update(src_format: u32, dst_format: u32) -> bool;
@@ -102,7 +102,7 @@ pub(crate) fn convert_region(
     src_format: u32,
     region: &ConvertRegion,
 ) -> u32 {
-    // SAFETY: each pointer and length come from one slice, which is lent for the whole call; `dst` is the only `&mut`.
+    // SAFETY: each pointer and length are those of one slice, lent for the whole call.
     unsafe {
         wentuqis_convert_region(
             dst.as_mut_ptr(),
@@ -128,7 +128,7 @@ pub(crate) fn convert_region(
 
 /// Repeats `pixel` over `dst`.
 pub(crate) fn splat_pixel_pattern(dst: &mut [u8], pixel: &[u8]) {
-    // SAFETY: each pointer and length come from one slice, which is lent for the whole call.
+    // SAFETY: each pointer and length are those of one slice, lent for the whole call.
     unsafe {
         wentuqis_splat_pixel_pattern(dst.as_mut_ptr(), dst.len(), pixel.as_ptr(), pixel.len());
     }
@@ -143,7 +143,7 @@ pub(crate) fn unpack(
     depth: &mut [u8],
     stencil: &mut [u8],
 ) -> u32 {
-    // SAFETY: each pointer and length come from one slice, which is lent for the whole call; two `&mut` never overlap.
+    // SAFETY: each pointer and length are those of one slice, lent for the whole call.
     unsafe {
         wentuqis_unpack(
             format,
@@ -171,7 +171,7 @@ pub(crate) fn pack(
     packed: &mut [u8],
     packed_pitch: usize,
 ) -> u32 {
-    // SAFETY: each pointer and length come from one slice, which is lent for the whole call; `packed` is the only `&mut`.
+    // SAFETY: each pointer and length are those of one slice, lent for the whole call.
     unsafe {
         wentuqis_pack(
             format,

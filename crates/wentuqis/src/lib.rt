@@ -192,7 +192,7 @@ pub extern "C" fn wentuqis_d3dcolor_fill_pixel_bytes(
     fill_number(reply)
 }
 
-// No refusal: an empty pattern leaves every byte, and one that does not divide the destination leaves its last bytes.
+// No refusal: byte i becomes byte i mod n of a pattern of n bytes; an empty pattern leaves every byte.
 #[no_mangle]
 pub extern "C" fn wentuqis_splat_pixel_pattern(dst: &mut [u8], pixel: &[u8])
     ensures bytes { λ _. ⌜ Splat (now (pixel .entry)) (now (dst .entry)) (now (dst .exit)) ⌝ }
@@ -329,10 +329,10 @@ pub extern "C" fn wentuqis_pack(
     depth_number(layout.pack(format, depth, stencil, packed, packed_pitch))
 }
 
-// ---- what a viewer relies on, by the calls above alone
+// ---- what a viewer relies on, by the contracts of the calls above alone; no part of the library
 
 // Unpacks a packed picture and packs the untouched planes into another buffer: accepted, that holds the same pixels.
-pub fn unpack_and_pack(
+fn unpack_and_pack(
     format: u32,
     width: usize,
     height: usize,
@@ -376,7 +376,7 @@ pub fn unpack_and_pack(
 }
 
 // The replies to a conversion, an unpacking and a packing.
-pub struct Replies {
+struct Replies {
     pub converted: u32,
     pub unpacked: u32,
     pub packed: u32,
@@ -384,7 +384,7 @@ pub struct Replies {
 
 // Converts a region, unpacks a picture and packs planes, each with buffers of its own: whatever is refused has left every byte
 // that it was lent.
-pub fn convert_unpack_pack(
+fn convert_unpack_pack(
     dst: &mut [u8],
     dst_format: u32,
     src: &[u8],
