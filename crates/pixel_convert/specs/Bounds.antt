@@ -35,11 +35,11 @@ abbrev narrow : List Part → Bool
 narrow [] = true
 narrow (p ∷ ps) = both (leb (p .width) 8) (narrow ps)
 
-abbrev Wide : Lane → Type 0
+abbrev pub Wide : Lane → Type 0
 Wide nowhere = Unit {0}
 Wide (at low n k) = 1 ≤ n
 
-abbrev Narrow : Lane → Type 0
+abbrev pub Narrow : Lane → Type 0
 Narrow nowhere = Unit {0}
 Narrow (at low n k) = n ≤ 8
 
@@ -59,7 +59,7 @@ found-narrow c (p ∷ ps) t = go (Channel-discrete c (p .channel)) (found-narrow
     go (yes e) r = leb→le (p .width) 8 (both-left (leb (p .width) 8) (narrow ps) t)
     go (no u) r = r
 
-lane-wide : (f : ℕ) (c : Channel) → Wide (laneOf f c)
+pub lane-wide : (f : ℕ) (c : Channel) → Wide (laneOf f c)
 unfolding laneOf
 lane-wide f c = found-wide c (partsOf f) (by-table wide tt tt f)
 
@@ -88,12 +88,12 @@ pub rgb-narrow : (f : ℕ) → isConvertibleRgb f ≡ true → T (narrow (partsO
 unfolding isConvertibleRgb partsOf
 rgb-narrow f h = listed-at (λ g. narrow (partsOf g)) rgbFormats tt f h
 
-lane-narrow : (f : ℕ) → isConvertibleRgb f ≡ true → (c : Channel) → Narrow (laneOf f c)
+pub lane-narrow : (f : ℕ) → isConvertibleRgb f ≡ true → (c : Channel) → Narrow (laneOf f c)
 unfolding laneOf
 lane-narrow f rgb c = found-narrow c (partsOf f) (rgb-narrow f rgb)
 
 -- ---- decoding: a byte, within 3/4 of the exact value
-code-lt : (low n w : ℕ) → codeAt low n w < 2 ^ n
+pub code-lt : (low n w : ℕ) → codeAt low n w < 2 ^ n
 code-lt low n w = mod-lt (w / 2 ^ low) (pow-pos n)
 
 ones-pos : (n : ℕ) → 1 ≤ n → 0 < 2 ^ n - 1

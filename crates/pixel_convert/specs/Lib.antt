@@ -11,4 +11,5 @@ pub mod Own
 pub mod Promises
 pub mod Fetch
 pub mod Rows
+pub mod Restored
 pub mod Answers
