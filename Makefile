@@ -50,10 +50,9 @@ fmt:
 	@rt fmt
 
 vectors:
-	@bash oracle/build.sh
-	@mkdir -p crates/replay/data
-	@oracle/build/record oracle/build/vectors.new
-	@mv -f oracle/build/vectors.new crates/replay/data/vectors
+	@bash oracle/build.sh record
+	@mkdir -p crates/replay/data oracle/build/recorded && oracle/build/record oracle/build/recorded
+	@mv -f oracle/build/recorded/{vectors,values,buffers} crates/replay/data/
 
 clean:
 	rm -rf target oracle/build out

@@ -1,146 +1,234 @@
-//! Measures conversions and depth transfers of a 4096 x 2160 frame, in nanoseconds a texel, on one
-//! thread. Each row of the table is one piece of work and each column a route that does it;
-//! `memcpy` copies as many bytes as the destination has. A number is the median of rounds in which
-//! the routes take turns, so that a slow moment of the machine falls on all of them. A further
-//! route is one more name in COLUMNS and one more closure in each kind of work.
+//! Usage: bench [--markdown FILE] [WORD..]
+//! Measures conversions and depth transfers of a 4096 x 2160 frame and splats of as many 4-byte
+//! texels, in nanoseconds a texel, on one thread: every work, or those whose name has one of the
+//! words. Each row of the table is one piece of work and each column a route that does it; `ours`,
+//! and its ratio to the original, stand where the port is linked, and `memcpy` copies as many
+//! bytes as the work writes. A number is the median of rounds in which the routes take turns, so
+//! that a slow moment of the machine falls on all of them. With --markdown the table is also
+//! written to FILE, which keeps what it has from its first line `## ..` on.
 
 mod common;
+mod paper;
+#[cfg(port)]
+mod port;
 
-use std::{hint::black_box, time::Instant};
+use std::{
+    fs,
+    hint::black_box,
+    process::ExitCode,
+    thread::available_parallelism,
+    time::{Duration, Instant},
+};
 
 use common::{XorShift, random_bytes, random_units, whole_frame};
-use mtld3d_types::*;
 use original::{
+    convert::splat_pixel_pattern,
     depth_texture::{PackedDepth, PlaneLayout},
-    pixel_convert::convert_region,
-    planar_yuv::planar_yuv_layout,
+    pixel_convert::{ConvertRegion, convert_region},
 };
+use paper::{Format, Kind, named};
 
 const WIDTH: u32 = 4096;
 const HEIGHT: u32 = 2160;
 const TEXELS: usize = WIDTH as usize * HEIGHT as usize;
+
+/// A work is repeated at least this often, and for at least this time.
 const ROUNDS: usize = 9;
-const COLUMNS: [&str; 2] = ["original", "memcpy"];
+const PERIOD: Duration = Duration::from_millis(600);
 
-/// One closure for each of COLUMNS, in their order.
-type Routes<'a> = [&'a mut dyn FnMut(); COLUMNS.len()];
-
-/// One time for each of COLUMNS, in nanoseconds a texel.
-type Medians = [f64; COLUMNS.len()];
-
-/// A colour format with the bytes that a texel adds to its row, the luma row if it is planar.
-struct Format {
-    name: &'static str,
-    code: u32,
-    bytes: usize,
-}
-
-const fn format(name: &'static str, code: u32, bytes: usize) -> Format {
-    Format { name, code, bytes }
-}
-
-const A8R8G8B8: Format = format("A8R8G8B8", D3DFMT_A8R8G8B8, 4);
-const X8R8G8B8: Format = format("X8R8G8B8", D3DFMT_X8R8G8B8, 4);
-const A8B8G8R8: Format = format("A8B8G8R8", D3DFMT_A8B8G8R8, 4);
-const R5G6B5: Format = format("R5G6B5", D3DFMT_R5G6B5, 2);
-const L8: Format = format("L8", D3DFMT_L8, 1);
-const YUY2: Format = format("YUY2", D3DFMT_YUY2, 2);
-const NV12: Format = format("NV12", D3DFMT_NV12, 1);
-const A16B16G16R16: Format = format("A16B16G16R16", D3DFMT_A16B16G16R16, 8);
-const A32B32G32R32F: Format = format("A32B32G32R32F", D3DFMT_A32B32G32R32F, 16);
+/// The titles of a row's numbers.
+const COLUMNS: &[&str] = if cfg!(port) {
+    &["original", "ours", "memcpy", "ours/original"]
+} else {
+    &["original", "memcpy"]
+};
 
 /// Source and destination of each conversion.
-const CONVERSIONS: [(Format, Format); 9] = [
-    (A8R8G8B8, X8R8G8B8),
-    (A8R8G8B8, R5G6B5),
-    (A8R8G8B8, A8B8G8R8),
-    (A8R8G8B8, L8),
-    (R5G6B5, A8R8G8B8),
-    (YUY2, A8R8G8B8),
-    (NV12, A8R8G8B8),
-    (A16B16G16R16, A8R8G8B8),
-    (A32B32G32R32F, A8R8G8B8),
+const CONVERSIONS: [(&str, &str); 21] = [
+    ("A8R8G8B8", "X8R8G8B8"),
+    ("A8R8G8B8", "A8B8G8R8"),
+    ("A8R8G8B8", "R8G8B8"),
+    ("A8R8G8B8", "R5G6B5"),
+    ("A8R8G8B8", "A1R5G5B5"),
+    ("A8R8G8B8", "A4R4G4B4"),
+    ("A8R8G8B8", "L8"),
+    ("A8R8G8B8", "A8"),
+    ("X8B8G8R8", "A8L8"),
+    ("R8G8B8", "X8R8G8B8"),
+    ("R5G6B5", "A8R8G8B8"),
+    ("X1R5G5B5", "R5G6B5"),
+    ("A4R4G4B4", "A8B8G8R8"),
+    ("L8", "A8R8G8B8"),
+    ("A8L8", "A8R8G8B8"),
+    ("YUY2", "A8R8G8B8"),
+    ("UYVY", "R5G6B5"),
+    ("NV12", "A8R8G8B8"),
+    ("YV12", "X8R8G8B8"),
+    ("A16B16G16R16", "A8R8G8B8"),
+    ("A32B32G32R32F", "A8R8G8B8"),
 ];
 
 /// The packed depth formats, each unpacked and packed.
 const DEPTHS: [(&str, u32); 3] = [
-    ("D16", D3DFMT_D16),
-    ("D24X8", D3DFMT_D24X8),
-    ("D24S8", D3DFMT_D24S8),
+    ("D16", paper::D16),
+    ("D24X8", paper::D24X8),
+    ("D24S8", paper::D24S8),
 ];
 
-fn main() {
-    println!("{WIDTH} x {HEIGHT}, nanoseconds a texel, median of {ROUNDS} rounds");
-    println!(
-        "{:30}{}",
-        "",
-        COLUMNS.map(|name| format!("{name:>10}")).concat()
-    );
-    for (from, to) in &CONVERSIONS {
-        print_row(&format!("{} to {}", from.name, to.name), convert(from, to));
+/// Bytes of the patterns that are splatted.
+const PATTERNS: [usize; 6] = [1, 2, 3, 4, 8, 16];
+
+fn main() -> ExitCode {
+    let mut words: Vec<String> = std::env::args().skip(1).collect();
+    let markdown = words.iter().position(|word| word == "--markdown");
+    let file = markdown.map(|at| words.drain(at..(at + 2).min(words.len())).nth(1));
+    if file == Some(None) {
+        eprintln!("bench: usage: bench [--markdown FILE] [WORD..]");
+        return ExitCode::from(2);
     }
-    for (name, code) in DEPTHS {
-        print_row(&format!("{name} unpack"), unpack(code));
-        print_row(&format!("{name} pack"), pack(code));
+    println!("{}", heading());
+    let table = table(&words);
+    if let Some(file) = file.flatten()
+        && let Err(error) = write_markdown(&file, &table)
+    {
+        eprintln!("bench: {file}: {error}");
+        return ExitCode::FAILURE;
     }
+    ExitCode::SUCCESS
 }
 
-fn print_row(name: &str, medians: Medians) {
-    println!(
-        "{name:30}{}",
-        medians.map(|time| format!("{time:10.2}")).concat()
-    );
+fn heading() -> String {
+    format!(
+        "{WIDTH} x {HEIGHT} texels, one thread, nanoseconds a texel, medians of \
+         {ROUNDS} or more interleaved rounds"
+    )
 }
 
-/// Runs the routes in turn, once uncounted and then ROUNDS times.
-fn measure(mut routes: Routes) -> Medians {
-    let mut times = COLUMNS.map(|_| Vec::new());
-    for _ in 0..=ROUNDS {
-        for (route, times) in routes.iter_mut().zip(&mut times) {
-            let start = Instant::now();
-            route();
-            times.push(start.elapsed().as_nanos());
+/// A name, and a number for each of COLUMNS.
+type Row = (String, Vec<f64>);
+
+/// Does the works that are asked for and prints each as it is done.
+fn table(words: &[String]) -> Vec<Row> {
+    let mut rows = Vec::new();
+    let titles: String = COLUMNS.iter().map(|name| format!("{name:>15}")).collect();
+    println!("{:30}{titles}", "");
+    for (name, work) in works() {
+        if words.is_empty() || words.iter().any(|word| name.contains(word)) {
+            let numbers = work();
+            let cells: String = numbers.iter().map(|it| format!("{it:15.2}")).collect();
+            println!("{name:30}{cells}");
+            rows.push((name, numbers));
         }
     }
-    times.map(|times| {
-        let mut counted = times[1..].to_vec();
-        counted.sort_unstable();
-        counted[ROUNDS / 2] as f64 / TEXELS as f64
-    })
+    rows
 }
 
-/// The route `memcpy` to a destination of `length` bytes.
-fn memcpy(length: usize) -> impl FnMut() {
-    let (from, mut to) = (vec![1_u8; length], vec![0_u8; length]);
-    move || black_box(&mut to).copy_from_slice(black_box(&from))
+/// A name, and what measures it.
+type Work = (String, Box<dyn Fn() -> Vec<f64>>);
+
+fn works() -> Vec<Work> {
+    let mut works: Vec<Work> = Vec::new();
+    for (from, to) in CONVERSIONS {
+        let (source, destination) = (named(from), named(to));
+        let work = move || convert(source, destination);
+        works.push((format!("{from} to {to}"), Box::new(work)));
+    }
+    for (name, code) in DEPTHS {
+        works.push((format!("{name} unpack"), Box::new(move || unpack(code))));
+        works.push((format!("{name} pack"), Box::new(move || pack(code))));
+    }
+    for length in PATTERNS {
+        works.push((
+            format!("splat of {length}"),
+            Box::new(move || splat(length)),
+        ));
+    }
+    works
+}
+
+/// The routes of one work, in the order of COLUMNS.
+struct Routes<'a>(Vec<Box<dyn FnMut() + 'a>>);
+
+impl<'a> Routes<'a> {
+    fn original(route: impl FnMut() + 'a) -> Self {
+        Self(vec![Box::new(route)])
+    }
+
+    #[cfg(port)]
+    fn ours(mut self, route: impl FnMut() + 'a) -> Self {
+        self.0.push(Box::new(route));
+        self
+    }
+
+    /// Adds `memcpy` of `length` bytes and runs the routes in turn, the first round uncounted.
+    fn measure(mut self, length: usize) -> Vec<f64> {
+        let (from, mut to) = (vec![1_u8; length], vec![0_u8; length]);
+        let copy = move || black_box(&mut to).copy_from_slice(black_box(&from));
+        self.0.push(Box::new(copy));
+        let mut times = vec![Vec::new(); self.0.len()];
+        let started = Instant::now();
+        while times[0].len() <= ROUNDS || started.elapsed() < PERIOD {
+            for (route, times) in self.0.iter_mut().zip(&mut times) {
+                let start = Instant::now();
+                route();
+                times.push(start.elapsed().as_nanos());
+            }
+        }
+        let mut numbers: Vec<f64> = times
+            .iter_mut()
+            .map(|times| median(&mut times[1..]))
+            .collect();
+        if cfg!(port) {
+            numbers.push(numbers[1] / numbers[0]);
+        }
+        numbers
+    }
+}
+
+/// The median of a work's times, for each texel.
+fn median(times: &mut [u128]) -> f64 {
+    times.sort_unstable();
+    times[times.len() / 2] as f64 / TEXELS as f64
 }
 
 /// A frame of random texels; binary32 channels lie between 0 and 1.
-fn frame(format: &Format, random: &mut XorShift) -> Vec<u8> {
-    match format.code {
-        D3DFMT_A32B32G32R32F => random_units(random, TEXELS * 4),
-        D3DFMT_NV12 => {
-            let layout = planar_yuv_layout(D3DFMT_NV12, WIDTH, HEIGHT).expect("a planar layout");
-            random_bytes(random, layout.total_bytes())
+fn frame(format: &Format) -> Vec<u8> {
+    let random = &mut XorShift::seeded();
+    match format.kind {
+        Kind::PlanarYuv => {
+            let (_, [.., total]) = paper::planar_layout(format.code, WIDTH, HEIGHT);
+            random_bytes(random, total as usize)
         }
+        Kind::Wide if format.bytes == 16 => random_units(random, TEXELS * 4),
         _ => random_bytes(random, TEXELS * format.bytes),
     }
 }
 
-fn convert(from: &Format, to: &Format) -> Medians {
-    let src = frame(from, &mut XorShift::seeded());
-    let mut dst = vec![0; TEXELS * to.bytes];
+fn convert(from: &Format, to: &Format) -> Vec<f64> {
+    let src = &frame(from);
     let width = WIDTH as usize;
     let region = whole_frame(WIDTH, HEIGHT, width * from.bytes, width * to.bytes);
-    let mut copy = memcpy(dst.len());
-    let mut original = || {
-        let (dst, src) = (black_box(&mut dst), black_box(&src));
-        assert!(convert_region(dst, to.code, src, from.code, &region));
+    let length = TEXELS * to.bytes;
+    let (mut dst, originals) = (vec![0; length], ConvertRegion::from(&region));
+    let routes = Routes::original(move || {
+        let (dst, src) = (black_box(&mut dst), black_box(src));
+        assert!(convert_region(dst, to.code, src, from.code, &originals));
+    });
+    #[cfg(port)]
+    let routes = {
+        let mut dst = vec![0; length];
+        routes.ours(move || {
+            let (dst, src) = (black_box(&mut dst), black_box(src));
+            assert_eq!(
+                port::convert_region(dst, to.code, src, from.code, &region),
+                0
+            );
+        })
     };
-    measure([&mut original, &mut copy])
+    routes.measure(length)
 }
 
-/// The buffers of a depth transfer, all of them random.
+/// A depth transfer with random buffers.
 struct Depth {
     format: PackedDepth,
     layout: PlaneLayout,
@@ -165,49 +253,107 @@ impl Depth {
             layout,
         }
     }
+
+    #[cfg(port)]
+    const fn planes(&self) -> paper::Planes {
+        paper::Planes {
+            width: self.layout.width,
+            height: self.layout.height,
+            depth_pitch: self.layout.depth_pitch,
+            stencil_pitch: self.layout.stencil_pitch,
+        }
+    }
 }
 
-fn unpack(code: u32) -> Medians {
-    let Depth {
-        format,
-        layout,
-        packed,
-        packed_pitch,
-        mut depth,
-        mut stencil,
-    } = Depth::new(code);
-    let written = if format.has_stencil() {
-        stencil.len()
-    } else {
-        0
+fn unpack(code: u32) -> Vec<f64> {
+    let call = &Depth::new(code);
+    let stencils = if call.format.has_stencil() { TEXELS } else { 0 };
+    let (mut depth, mut stencil) = (call.depth.clone(), call.stencil.clone());
+    let routes = Routes::original(move || {
+        let (depth, stencil) = (black_box(&mut depth), black_box(&mut stencil));
+        let (format, packed) = (&call.format, black_box(&call.packed));
+        assert!(
+            call.layout
+                .unpack(format, packed, call.packed_pitch, depth, stencil)
+        );
+    });
+    #[cfg(port)]
+    let routes = {
+        let (mut depth, mut stencil) = (call.depth.clone(), call.stencil.clone());
+        routes.ours(move || {
+            let (depth, stencil) = (black_box(&mut depth), black_box(&mut stencil));
+            let (planes, packed) = (call.planes(), black_box(&call.packed));
+            let reply = port::unpack(code, &planes, packed, call.packed_pitch, depth, stencil);
+            assert_eq!(reply, 0);
+        })
     };
-    let mut copy = memcpy(depth.len() + written);
-    let mut original = || {
-        let (packed, depth) = (black_box(&packed), black_box(&mut depth));
-        assert!(layout.unpack(
-            &format,
-            packed,
-            packed_pitch,
-            depth,
-            black_box(&mut stencil)
-        ));
-    };
-    measure([&mut original, &mut copy])
+    routes.measure(4 * TEXELS + stencils)
 }
 
-fn pack(code: u32) -> Medians {
-    let Depth {
-        format,
-        layout,
-        mut packed,
-        packed_pitch,
-        depth,
-        stencil,
-    } = Depth::new(code);
-    let mut copy = memcpy(packed.len());
-    let mut original = || {
-        let (depth, packed) = (black_box(&depth), black_box(&mut packed));
-        assert!(layout.pack(&format, depth, black_box(&stencil), packed, packed_pitch));
+fn pack(code: u32) -> Vec<f64> {
+    let call = &Depth::new(code);
+    let mut packed = call.packed.clone();
+    let routes = Routes::original(move || {
+        let (depth, stencil) = (black_box(&call.depth), black_box(&call.stencil));
+        let (format, packed) = (&call.format, black_box(&mut packed));
+        assert!(
+            call.layout
+                .pack(format, depth, stencil, packed, call.packed_pitch)
+        );
+    });
+    #[cfg(port)]
+    let routes = {
+        let mut packed = call.packed.clone();
+        routes.ours(move || {
+            let (depth, stencil) = (black_box(&call.depth), black_box(&call.stencil));
+            let (planes, packed) = (call.planes(), black_box(&mut packed));
+            let reply = port::pack(code, &planes, depth, stencil, packed, call.packed_pitch);
+            assert_eq!(reply, 0);
+        })
     };
-    measure([&mut original, &mut copy])
+    routes.measure(call.packed.len())
+}
+
+fn splat(pattern: usize) -> Vec<f64> {
+    let pixel = &random_bytes(&mut XorShift::seeded(), pattern);
+    let mut dst = vec![0; 4 * TEXELS];
+    let routes = Routes::original(move || {
+        splat_pixel_pattern(black_box(&mut dst), black_box(pixel));
+    });
+    #[cfg(port)]
+    let routes = {
+        let mut dst = vec![0; 4 * TEXELS];
+        routes.ours(move || {
+            port::splat_pixel_pattern(black_box(&mut dst), black_box(pixel));
+        })
+    };
+    routes.measure(4 * TEXELS)
+}
+
+/// Writes the table above what `path` has from its first heading of the second rank on.
+fn write_markdown(path: &str, table: &[Row]) -> std::io::Result<()> {
+    let old = fs::read_to_string(path).unwrap_or_default();
+    let kept = old.find("\n## ").map_or("", |at| &old[at..]);
+    let mut text = format!(
+        "# Benchmarks\n\n{}. {}. `memcpy` copies as many bytes as the work writes; a splat's texel \
+         has 4 bytes.\n\n| work | {} |\n|---|{}\n",
+        heading(),
+        machine(),
+        COLUMNS.join(" | "),
+        "---:|".repeat(COLUMNS.len())
+    );
+    for (name, numbers) in table {
+        let cells: String = numbers.iter().map(|it| format!(" {it:.2} |")).collect();
+        text += &format!("| {name} |{cells}\n");
+    }
+    fs::write(path, text + kept)
+}
+
+/// The processor's model and the number of its cores.
+fn machine() -> String {
+    let info = fs::read_to_string("/proc/cpuinfo").unwrap_or_default();
+    let model = info.lines().find(|line| line.starts_with("model name"));
+    let model = model.and_then(|line| line.split(": ").nth(1));
+    let cores = available_parallelism().map_or(1, usize::from);
+    format!("{}, {cores} cores", model.unwrap_or("unknown processor"))
 }

@@ -1,14 +1,18 @@
 #!/usr/bin/env bash
-# Builds the original Rust, unchanged, as the library `original`, and this folder's programs over it, in oracle/build/.
-# The source is the folder ORACLE_SRC, else ../shared/docs/src beside the repository's root; its files lie below
-# windows/core/src. Where there is none, one line says so and the exit status is 3. What is newer than all that it
-# is made from is left as it is. With --where, only prints the source folder.
+# Usage: build.sh [PROGRAM..]
+# Builds the original Rust, unchanged, as the library `original`, and this folder's programs over it, in oracle/build/:
+# those named, or all. The source is the folder ORACLE_SRC, else ../shared/docs/src beside the repository's root; its
+# files lie below windows/core/src. Where there is none, one line says so and the exit status is 3. `compare`, `fuzz` and
+# a `bench` with the port's column need libwentuqis.a in the folder WENTUQIS_LIB_DIR, else in target/staticlib; without
+# it one line says so, which is a failure only where `compare` or `fuzz` is named. What is newer than all that it is made
+# from is left as it is. With --where, only prints the source folder.
 set -euo pipefail
 
 here=$(cd "$(dirname "${BASH_SOURCE[0]}")" && pwd)
 script=$here/build.sh
 build=$here/build
 source=${ORACLE_SRC:-$(dirname "$(dirname "$here")")/shared/docs/src}
+archive=${WENTUQIS_LIB_DIR:-$(dirname "$here")/target/staticlib}/libwentuqis.a
 
 # Modules taken whole, and modules of which items are cut out because the rest leans on what is not at hand.
 whole=(pixel_convert planar_yuv depth_texture)
@@ -114,8 +118,71 @@ if ! made "$build/liboriginal.rlib" "$root" "$build"/libmtld3d_{types,shared}.rl
 fi
 externs+=(--extern "original=$build/liboriginal.rlib")
 
-for name in worked_table record bench; do
-    if ! made "$build/$name" "$here/$name.rs" "$here/common.rs" "$build/liboriginal.rlib"; then
-        compile "$build/$name" "$here/$name.rs" "${externs[@]}"
+named=("$@")
+
+# asked NAME..: no program is named, or one of these is.
+asked() {
+    local name
+    ((${#named[@]} > 0)) || return 0
+    for name in "$@"; do
+        if [[ " ${named[*]} " == *" $name "* ]]; then return 0; fi
+    done
+    return 1
+}
+
+# program NAME SOURCES.. -- WORDS..: builds a program if it is asked for.
+program() {
+    local name=$1 from=()
+    shift
+    if ! asked "$name"; then return; fi
+    while [[ $1 != -- ]]; do
+        from+=("$1")
+        shift
+    done
+    if ! made "$build/$name" "$here/$name.rs" "${from[@]}"; then
+        compile "$build/$name" "$here/$name.rs" "${externs[@]}" "${@:2}"
     fi
-done
+}
+
+# missing: what the archive lacks of what port.rs names; nothing if it is whole.
+missing() {
+    local name
+    if [[ ! -f $archive ]]; then
+        echo 'is not there'
+        return
+    fi
+    while read -r name; do
+        if ! LC_ALL=C grep -aqz "$name\$" "$archive"; then
+            echo "lacks $name"
+            return
+        fi
+    done < <(grep -o '\bwentuqis_\w*' "$here/port.rs" | sort -u)
+}
+
+common=("$here/common.rs" "$build/liboriginal.rlib")
+program worked_table "${common[@]}" --
+program record "${common[@]}" "$here"/{calls,paper,record_calls}.rs --
+
+# A `bench` over another archive, or over none, is not kept.
+common+=("$here/paper.rs")
+port=() missing=$(missing)
+if [[ -z $missing ]]; then
+    common+=("$here/port.rs" "$archive")
+    port=(--cfg port -L "native=${archive%/*}" -l static=wentuqis)
+fi
+if [[ ! -f $build/linked || $(<"$build/linked") != "${port[*]}" ]]; then
+    rm -f "$build"/{bench,compare,fuzz}
+    echo "${port[*]}" >"$build/linked"
+fi
+program bench "${common[@]}" -- --check-cfg 'cfg(port)' "${port[@]}"
+
+if [[ -z $missing ]]; then
+    common+=("$here"/{calls,checks,findings}.rs)
+    for name in compare fuzz; do
+        program "$name" "${common[@]}" "$here"/parts/*.rs -- --check-cfg 'cfg(port)' "${port[@]}" -C overflow-checks=on
+    done
+elif asked bench compare fuzz; then
+    missing="$archive $missing (rt staticlib wentuqis makes it; WENTUQIS_LIB_DIR names another folder)"
+    if ((${#named[@]} > 0)) && asked compare fuzz; then fail "$missing"; fi
+    echo "oracle: $missing: compare and fuzz are not built, and bench is without the port" >&2
+fi

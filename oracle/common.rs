@@ -136,3 +136,11 @@ pub fn random_units(random: &mut XorShift, count: usize) -> Vec<u8> {
         .flat_map(|_| random.next_unit().to_le_bytes())
         .collect()
 }
+
+/// A seed in decimal, or in hexadecimal after 0x.
+pub fn read_seed(word: &str) -> Option<u64> {
+    match word.strip_prefix("0x") {
+        Some(digits) => u64::from_str_radix(digits, 16).ok(),
+        None => word.parse().ok(),
+    }
+}

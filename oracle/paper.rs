@@ -72,7 +72,7 @@ pub const FORMATS: [Format; 18] = [
     format("NV12", NV12, Kind::PlanarYuv, 1),
 ];
 
-/// The codes that fill.
+/// The codes that fill: all that have a name in document 01 but R8G8B8, A8L8, depth and YUV.
 const FILLS: [u32; 24] = [
     21, 22, 23, 24, 25, 26, 28, 31, 32, 33, 34, 35, 36, 50, 60, 63, 64, 110, 111, 112, 113, 114,
     115, 116,
@@ -83,6 +83,12 @@ const MAX_TEXTURE_DIM: u128 = 16384;
 
 pub fn find(code: u32) -> Option<&'static Format> {
     FORMATS.iter().find(|format| format.code == code)
+}
+
+/// The format of a name that is in the list.
+pub fn named(name: &str) -> &'static Format {
+    let format = FORMATS.iter().find(|format| format.name == name);
+    format.expect("a format that converts")
 }
 
 fn kind(code: u32) -> Option<Kind> {
@@ -150,8 +156,9 @@ fn coordinates(x: u32, y: u32, texel: Texel) -> Option<(u128, u128)> {
     (x.max(y) <= u32::MAX.into()).then_some((x, y))
 }
 
-fn linear(slice: u128, slice_pitch: usize, y: u128, pitch: usize, row_offset: u128) -> u128 {
-    (slice * slice_pitch as u128).saturating_add(y * pitch as u128 + row_offset)
+/// The offset of a place in row `y` of a slice.
+fn linear(slice: u128, slice_pitch: usize, y: u128, pitch: usize, in_row: u128) -> u128 {
+    (slice * slice_pitch as u128).saturating_add(y * pitch as u128 + in_row)
 }
 
 /// One past the last byte that a texel needs of the source; none where it has no such bytes.
@@ -204,7 +211,6 @@ fn outside(end: Option<u128>, length: usize) -> bool {
 }
 
 /// A conversion as far as its reply depends on it.
-#[derive(Clone, Copy)]
 pub struct Conversion<'a> {
     pub dst_format: u32,
     pub dst_length: usize,

@@ -1,16 +1,21 @@
-//! Usage: record FILE
-//! Records the original's answers for the leaf arithmetic of channels, as records of four
-//! little-endian 32-bit words: call, a, b, answer. README.md lists the calls. Every answer comes
-//! from a public function of the original; where several lanes or formats show the same
+//! Usage: record FOLDER
+//! Records the original's answers, in three files of the folder. `vectors` has the leaf arithmetic
+//! of channels, as records of four little-endian 32-bit words: call, a, b, answer; `values` and
+//! `buffers` have every public call (record_calls.rs). README.md lists the calls. Every answer
+//! comes from a public function of the original; where several lanes or formats show the same
 //! arithmetic, they must agree.
 
+mod calls;
 mod common;
+mod paper;
+mod record_calls;
 
-use std::process::ExitCode;
+use std::{path::Path, process::ExitCode};
 
 use common::{XorShift, convert_texel};
 use mtld3d_types::*;
 use original::{convert::d3dcolor_fill_pixel_bytes, format::linear_row_pitch};
+use record_calls::{BUFFERS, FIRST, Recorder, VALUES};
 
 /// Records of one call: a, b, answer.
 type Sample = Vec<[u32; 3]>;
@@ -63,27 +68,53 @@ const SOURCES: [u32; 14] = [
 
 fn main() -> ExitCode {
     let words: Vec<String> = std::env::args().skip(1).collect();
-    let [path] = &words[..] else {
-        eprintln!("record: usage: record FILE");
+    let [folder] = &words[..] else {
+        eprintln!("record: usage: record FOLDER");
         return ExitCode::FAILURE;
     };
+    println!("seed {:016X}", XorShift::SEED);
+    let files = [
+        ("vectors", vectors()),
+        ("values", public(FIRST, &VALUES)),
+        ("buffers", public(FIRST + VALUES.len() as u32, &BUFFERS)),
+    ];
+    for (name, file) in files {
+        println!("{name}: {} bytes", file.len());
+        if let Err(error) = std::fs::write(Path::new(folder).join(name), file) {
+            eprintln!("record: {folder}/{name}: {error}");
+            return ExitCode::FAILURE;
+        }
+    }
+    ExitCode::SUCCESS
+}
+
+/// The records of the channel arithmetic.
+fn vectors() -> Vec<u8> {
     let mut random = XorShift::seeded();
     let mut file = Vec::new();
-    println!("seed {:016X}", XorShift::SEED);
     for (place, (name, sample)) in CALLS.iter().enumerate() {
         let call = place as u32 + 1;
         let records = sample(&mut random);
-        println!("call {call:2} {name:18} {:5} records", records.len());
+        println!("call {call:2} {name:28} {:5} records", records.len());
         for [a, b, answer] in records {
             file.extend([call, a, b, answer].map(u32::to_le_bytes).as_flattened());
         }
     }
-    println!("{} records, {} bytes", file.len() / 16, file.len());
-    if let Err(error) = std::fs::write(path, file) {
-        eprintln!("record: {path}: {error}");
-        return ExitCode::FAILURE;
+    file
+}
+
+/// The records of public calls whose numbers start at `first`; each has random numbers of its own.
+fn public(first: u32, calls: &[record_calls::Call]) -> Vec<u8> {
+    let mut file = Vec::new();
+    for (call, (name, record)) in (first..).zip(calls) {
+        let random = XorShift::from_seed(XorShift::SEED ^ u64::from(call));
+        let mut recorder = Recorder::new(random, call);
+        record(&mut recorder);
+        let (count, refused) = (recorder.count, recorder.refused);
+        println!("call {call:2} {name:28} {count:5} records, {refused:5} refused");
+        file.extend(recorder.records);
     }
-    ExitCode::SUCCESS
+    file
 }
 
 /// The records of a call with one argument; b is 0.

@@ -1,10 +1,13 @@
--- The code of a depth by the range in which its bit pattern lies. Assumes nothing.
-use mathlib.Core.Path.{_≡_, sym, ap, _∙_}
+-- The code of a depth by the range in which its bit pattern lies, and a NaN, which counts as 0. Assumes nothing.
+use mathlib.Core.Path.{_≡_, refl, sym, ap, _∙_, subst}
+use mathlib.Core.Bool.{true, false, not, true≢false}
 use Prim.Native.Nat.{ℕ, _+_, _-_, _*_, _/_, _%_, _^_, _≤_, _<_}
 use native.Mathlib.Nat.{zero-mul, mul-comm, mul-assoc, mul-right-comm, mul-le-mul-left}
 use native.Mathlib.Omega.{arith}
 use lib.Pow.{pow-pos}
-use lib.Ieee.{Float, binary32, ofBits}
+use lib.Dec.{T}
+use lib.Ieee.{Float, nan, inf, fin, binary32, ofBits, ofFields, odd, isNan, ne}
+use lib.Ieee.Compare.{differs-from-itself}
 use lib.Ieee.Nearest.{closest, closest-same}
 use Rattle.channels.specs.Floats.{clamped, bottom-pos, small-pattern, normal-pattern}
 use Rattle.depth_texture.specs.Depth.{codeFor}
@@ -42,3 +45,29 @@ code-normal max b h k =
     let s = 150 - b / 8388608 in
     closest-same (m * max) (2 ^ s) (x .top * max) (x .bottom) (pow-pos s) (bottom-pos (ofBits binary32 b))
     (mul-right-comm m max (x .bottom) ∙ ap (λ n. n * max) (sym (normal-pattern b (omega arith) k)) ∙ mul-right-comm (x .top) (2 ^ s) max)
+
+-- ---- a NaN
+pub nan-clamped : (x : Float) → T (isNan x) → clamped x ≡ clamped nan
+unfolding isNan
+nan-clamped nan t = refl
+nan-clamped (inf s) t = absurd t
+nan-clamped (fin s m e) t = absurd t
+
+-- 0 is clamped to what a NaN is, and is none
+pub zero-clamped : clamped (ofBits binary32 0) ≡ clamped nan
+unfolding ofBits ofFields odd
+zero-clamped = refl
+
+pub zero-number : T (not (isNan (ofBits binary32 0)))
+unfolding ofBits ofFields odd isNan
+zero-number = tt
+
+-- the test `x != x`
+pub tested-nan : (x : Float) → ne x x ≡ true → clamped (ofBits binary32 0) ≡ clamped x
+tested-nan x h = zero-clamped ∙ sym (ap clamped (differs-from-itself x (subst T (sym h) tt)))
+
+pub tested-number : (x : Float) → ne x x ≡ false → T (not (isNan x))
+unfolding ne isNan
+tested-number nan h = absurd (true≢false h)
+tested-number (inf s) h = tt
+tested-number (fin s m e) h = tt

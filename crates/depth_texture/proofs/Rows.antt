@@ -61,11 +61,15 @@ encoded-sized : (f : ℕ) (v : DepthStencil) → length (encoded f v) ≡ bytesO
 unfolding encoded
 encoded-sized f v = length-bytes (bytesOf f) (pixelWord f (codeFor (maxCode f) (v .depth)) (v .stencil))
 
+-- what is packed depends on the clamped depth alone
+pub encoded-same : (f : ℕ) (v w : DepthStencil) → clamped (v .depth) ≡ clamped (w .depth) → v .stencil ≡ w .stencil → encoded f v ≡ encoded f w
+unfolding encoded codeFor
+encoded-same f v w e h = ap₂ (λ (q : Fraction) (t : ℕ). bytes (bytesOf f) (pixelWord f (closest (q .top * maxCode f) (q .bottom)) t)) e h
+
 pub pixel-encoded : (f : ℕ) (depth stencil : List ℕ) (d s : ℕ) (r : Float) (t : ℕ) → clamped r ≡ clamped (depthAt depth d) → t ≡ stencilAt f stencil s
     → encoded f (record { depth = r; stencil = t }) ≡ packedBytes f depth stencil d s
-unfolding encoded packedBytes codeFor
-pixel-encoded f depth stencil d s r t e h =
-    ap₂ (λ (q : Fraction) (t : ℕ). bytes (bytesOf f) (pixelWord f (closest (q .top * maxCode f) (q .bottom)) t)) e h
+unfolding packedBytes
+pixel-encoded f depth stencil d s r t e h = encoded-same f (record { depth = r; stencil = t }) (record { depth = depthAt depth d; stencil = stencilAt f stencil s }) e h
 
 -- the encoder is lent the part of the row that starts at the pixel, and it comes back
 pub pixel-stored : (f n : ℕ) (depth stencil packed : List ℕ) (d s to : ℕ) (v : DepthStencil) (w : List ℕ) → bytesOf f ≡ n → to + n ≤ length packed

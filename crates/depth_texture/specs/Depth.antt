@@ -16,6 +16,6 @@ pub record CodeFor (max : ℕ) (x : Float) (k : ℕ) : Type 0 where
   pub is-code : k ≤ max
   pub nearest : NearestEven (clamped x .top * max) (clamped x .bottom) k
 
--- that code, computed
+-- that code, computed (Restoration joins the two)
 unfoldable pub codeFor : (max : ℕ) → Float → ℕ
 codeFor max x = closest (clamped x .top * max) (clamped x .bottom)

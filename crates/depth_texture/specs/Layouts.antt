@@ -18,11 +18,11 @@ limit = 18446744073709551616
 abbrev pub PowerOfTwo : ℕ → Type 0
 PowerOfTwo a = (k : ℕ) × (a ≡ 2 ^ k)
 
--- the same as a test: a is not different from 2 ^ k for each k below a
+-- the same as a test of each k below a (Powers joins the two)
 unfoldable pub isPowerOfTwo : ℕ → Bool
 isPowerOfTwo a = not (all (λ k. not (eqb a (2 ^ k))) a)
 
--- n raised to a multiple of a (Raised says so)
+-- n raised to a multiple of a: the least that is not below n, as Raised says (Powers joins the two)
 unfoldable pub raised : (n a : ℕ) → ℕ
 raised n a = (n + (a - 1)) / a * a
 
@@ -59,13 +59,14 @@ layoutRefusal w h a =
 unfoldable pub layoutFor : (width height alignment : ℕ) → PlaneLayout
 layoutFor w h a = pick (eqb (layoutRefusal w h a) 0) (aligned w h a) (layout 0 0 0 0)
 
--- document 01's number and values for each answer
+-- document 01's number for each answer
 abbrev pub answerNumber : PlaneLayoutAnswer → ℕ
 answerNumber (Layout l) = 0
 answerNumber ZeroSize = 6
 answerNumber NoPowerOfTwo = 7
 answerNumber Over64Bits = 8
 
+-- the four values that each answer hands back
 abbrev pub answerLayout : PlaneLayoutAnswer → PlaneLayout
 answerLayout (Layout l) = l
 answerLayout ZeroSize = layout 0 0 0 0
@@ -81,6 +82,6 @@ pub record Stands (l : PlaneLayout) : Type 0 where
   pub depth-fits : l .«depth_pitch» * l .height < limit
   pub stencil-fits : l .«stencil_pitch» * l .height < limit
 
--- the same as a test
+-- the same as a test (Refusals joins the two)
 unfoldable pub stands : PlaneLayout → Bool
 stands l = not (isEmpty l) && leb (4 * l .width) (l .«depth_pitch») && leb (l .width) (l .«stencil_pitch») && planesFit l

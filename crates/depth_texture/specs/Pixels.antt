@@ -31,6 +31,7 @@ abbrev pub StandsFor : ℕ → PackedDepthCode → Type 0
 StandsFor f (Depth d) = formatCode d ≡ f
 StandsFor f Other = isPackedDepth f ≡ false
 
+-- there is a lane
 abbrev isLane : Lane → Bool
 isLane nowhere = false
 isLane (at low n k) = true
@@ -48,14 +49,15 @@ abbrev pub heldIn : Lane → ℕ → ℕ
 heldIn nowhere w = 0
 heldIn (at low n k) w = codeAt low n w
 
--- the depth's code and the stencil that a pixel's word holds
+-- the depth's code that a pixel's word holds
 unfoldable pub depthCode : (f word : ℕ) → ℕ
 depthCode f w = heldIn (laneOf f depth) w
 
+-- the stencil that it holds, and 0 without one
 unfoldable pub stencilCode : (f word : ℕ) → ℕ
 stencilCode f w = heldIn (laneOf f stencil) w
 
--- what a pixel's word stands for; without a stencil that is 0
+-- what a pixel's word stands for
 unfoldable pub decoded : (f word : ℕ) → DepthStencil
 decoded f w = record { depth = depthOf (maxCode f) (depthCode f w); stencil = stencilCode f w }
 

@@ -22,10 +22,11 @@ wordAt f packed a = number (take (bytesOf f) (drop a packed))
 unfoldable pub depthAt : List ℕ → ℕ → Float
 depthAt plane a = ofBits binary32 (number (take 4 (drop a plane)))
 
--- the four bytes of a pixel's depth, and the byte of its stencil
+-- the four bytes of a packed pixel's depth
 unfoldable pub depthBytes : (f : ℕ) → List ℕ → ℕ → List ℕ
 depthBytes f packed a = bytes 4 (toBits binary32 (decoded f (wordAt f packed a) .depth))
 
+-- the byte of its stencil
 unfoldable pub stencilBytes : (f : ℕ) → List ℕ → ℕ → List ℕ
 stencilBytes f packed a = bytes 1 (decoded f (wordAt f packed a) .stencil)
 
@@ -52,13 +53,15 @@ packedRow f depth stencil from at to width = writtenRow to (bytesOf f) width (λ
 
 -- ---- every pixel
 module _ (f : ℕ) (l : PlaneLayout) (packed : List ℕ) (pitch : ℕ) where
+  -- the depth plane with each pixel's depth at its place
   unfoldable pub depthPlane : List ℕ → List ℕ
   depthPlane = written (l .«depth_pitch») 4 (l .width) (l .height) (λ x y. depthBytes f packed (place pitch (bytesOf f) x y))
 
-  -- without a stencil the plane is not written
+  -- the stencil plane with each pixel's stencil at its place; without a stencil it is not written
   unfoldable pub stencilPlane : List ℕ → List ℕ
   stencilPlane plane = pick (hasStencil f) (written (l .«stencil_pitch») 1 (l .width) (l .height) (λ x y. stencilBytes f packed (place pitch (bytesOf f) x y)) plane) plane
 
+-- the packed buffer with each pixel at its place
 unfoldable pub packedPixels : (f : ℕ) (l : PlaneLayout) (depth stencil : List ℕ) (pitch : ℕ) → List ℕ → List ℕ
 packedPixels f l depth stencil pitch =
     written pitch (bytesOf f) (l .width) (l .height) (λ x y. packedBytes f depth stencil (place (l .«depth_pitch») 4 x y) (place (l .«stencil_pitch») 1 x y))
@@ -68,14 +71,17 @@ packedPixels f l depth stencil pitch =
 abbrev pub ifAccepted : ℕ → List ℕ → List ℕ → List ℕ
 ifAccepted refusal made was = pick (eqb refusal 0) made was
 
+-- the depth plane after unpacking
 unfoldable pub unpackedDepth : ℕ → PlaneLayout → (packed : List ℕ) (pitch : ℕ) (depth stencil : List ℕ) → List ℕ
 unpackedDepth f l packed pitch depth stencil =
     ifAccepted (refusalOf f l (length packed) pitch (length depth) (length stencil)) (depthPlane f l packed pitch depth) depth
 
+-- the stencil plane after unpacking
 unfoldable pub unpackedStencil : ℕ → PlaneLayout → (packed : List ℕ) (pitch : ℕ) (depth stencil : List ℕ) → List ℕ
 unpackedStencil f l packed pitch depth stencil =
     ifAccepted (refusalOf f l (length packed) pitch (length depth) (length stencil)) (stencilPlane f l packed pitch stencil) stencil
 
+-- the packed buffer after packing
 unfoldable pub packedBuffer : ℕ → PlaneLayout → (depth stencil packed : List ℕ) (pitch : ℕ) → List ℕ
 packedBuffer f l depth stencil packed pitch =
     ifAccepted (refusalOf f l (length packed) pitch (length depth) (length stencil)) (packedPixels f l depth stencil pitch packed) packed

@@ -48,7 +48,7 @@ refusalOf f l packed pitch depth stencil =
     (pick (not (planeHolds (l .«depth_pitch») (l .height) depth)) 12
     (pick (not (stencilHolds f l stencil)) 13 0))))
 
--- what an accepted call has
+-- what an accepted call has (Refusals shows it)
 pub record Accepts (f : ℕ) (l : PlaneLayout) (packed pitch depth stencil : ℕ) : Type 0 where
   pub known : isPackedDepth f ≡ true
   pub sound : Stands l

@@ -102,10 +102,11 @@ impl PackedDepth {
         requires { ⌜ bytesOf (formatCode self) ≤ length (now pixel) ⌝ }
         ensures { λ _. ⌜ now (pixel .exit) ≡ sets (now (pixel .entry)) 0 (encoded (formatCode self) value) ⌝ }
     {
+        let number = without_nan(value);
         match self {
-            PackedDepth::D16 => encode_d16(value, pixel),
-            PackedDepth::D24X8 => encode_d24x8(value, pixel),
-            PackedDepth::D24S8 => encode_d24s8(value, pixel),
+            PackedDepth::D16 => encode_d16(number, pixel),
+            PackedDepth::D24X8 => encode_d24x8(number, pixel),
+            PackedDepth::D24S8 => encode_d24s8(number, pixel),
         }
     }
 }
@@ -177,18 +178,29 @@ fn code_of_bits(max: u64, bits: u32) -> u64
 
 // The code of a depth.
 fn code_of(max: u64, depth: f32) -> u64
-    requires { ⌜ max < 16777216 ⌝ }
+    requires { ⌜ (max < 16777216) × T (not (isNan depth)) ⌝ }
     ensures { λ r. ⌜ r ≡ codeFor max depth ⌝ }
 {
-    if depth != depth {
-        return 0;
-    }
     code_of_bits(max, f32::to_bits(depth))
+}
+
+// The same depth and stencil, with 0 for a NaN, which has no bits of its own.
+fn without_nan(value: DepthStencil) -> DepthStencil
+    ensures same { λ r. ⌜ (clamped (r .depth) ≡ clamped (value .depth)) × (r .stencil ≡ value .stencil) ⌝ }
+    ensures number { λ r. ⌜ T (not (isNan (r .depth))) ⌝ }
+{
+    if value.depth != value.depth {
+        return DepthStencil {
+            depth: 0.0,
+            stencil: value.stencil,
+        };
+    }
+    value
 }
 
 // D16: the word is the code, and there is no stencil.
 fn encode_d16(value: DepthStencil, pixel: &mut [u8])
-    requires { ⌜ 2 ≤ length (now pixel) ⌝ }
+    requires { ⌜ (2 ≤ length (now pixel)) × T (not (isNan (value .depth))) ⌝ }
     ensures { λ _. ⌜ now (pixel .exit) ≡ sets (now (pixel .entry)) 0 (encoded codes.D16 value) ⌝ }
 {
     put16(pixel, code_of(65535, value.depth) as u16);
@@ -196,7 +208,7 @@ fn encode_d16(value: DepthStencil, pixel: &mut [u8])
 
 // D24X8: the word is the code, which leaves the unused byte 0.
 fn encode_d24x8(value: DepthStencil, pixel: &mut [u8])
-    requires { ⌜ 4 ≤ length (now pixel) ⌝ }
+    requires { ⌜ (4 ≤ length (now pixel)) × T (not (isNan (value .depth))) ⌝ }
     ensures { λ _. ⌜ now (pixel .exit) ≡ sets (now (pixel .entry)) 0 (encoded codes.D24X8 value) ⌝ }
 {
     put32(pixel, code_of(16777215, value.depth) as u32);
@@ -204,7 +216,7 @@ fn encode_d24x8(value: DepthStencil, pixel: &mut [u8])
 
 // D24S8: the code above the stencil byte.
 fn encode_d24s8(value: DepthStencil, pixel: &mut [u8])
-    requires { ⌜ 4 ≤ length (now pixel) ⌝ }
+    requires { ⌜ (4 ≤ length (now pixel)) × T (not (isNan (value .depth))) ⌝ }
     ensures { λ _. ⌜ now (pixel .exit) ≡ sets (now (pixel .entry)) 0 (encoded codes.D24S8 value) ⌝ }
 {
     let code = code_of(16777215, value.depth) as u32;
@@ -222,7 +234,8 @@ fn store_depth(plane: &mut [u8], at: usize, depth: f32)
 // The depth whose four bytes begin at byte `at` of a depth plane. A NaN's bytes count as 0.
 fn load_depth(plane: &[u8], at: usize) -> f32
     requires { ⌜ at + 4 ≤ length (now plane) ⌝ }
-    ensures { λ r. ⌜ clamped r ≡ clamped (depthAt (now (plane .entry)) at) ⌝ }
+    ensures same { λ r. ⌜ clamped r ≡ clamped (depthAt (now (plane .entry)) at) ⌝ }
+    ensures number { λ r. ⌜ T (not (isNan r)) ⌝ }
 {
     let bits = le32(&plane[at..]);
     if bits % 0x8000_0000 > 0x7f80_0000 {
@@ -274,7 +287,7 @@ impl DepthReply {
 }
 
 // What the tests before a call found: the format of an accepted one, or the refusal.
-pub enum DepthCheck {
+enum DepthCheck {
     Depth(PackedDepth),
     Refused(DepthReply),
 }

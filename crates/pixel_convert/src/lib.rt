@@ -1,4 +1,8 @@
-// Conversion of one region of texels between two formats, from pixel_convert.rs of athei/mtld3d (an altered version, see NOTICE).
+// Conversion of a region of texels from one format into another: the RGB formats into each other, packed and planar YUV into RGB,
+// and the two wide formats into A8R8G8B8. Refused, before any byte is written: a pair that does not convert, a planar source that is
+// no single slice of whole rows, and a region with a texel outside the source or the destination. specs/ has what texels decode and
+// encode to (Texels), where they lie (Places), the reply, the bytes and what is promised of them (Regions).
+// Ported from pixel_convert.rs of athei/mtld3d (an altered version, see NOTICE).
 ghost use mathlib.Core.Path.{_≡_};
 ghost use Prim.Native.Nat.{ℕ, _+_, _≤_, _<_, _%_, _/_};
 ghost use lib.Dec.{leb, eqb};
@@ -7,7 +11,7 @@ ghost use lib.Seq.{sets};
 ghost use Rattle.words.specs.Little.{number};
 ghost use Rattle.formats.specs.Table.{bytesOf};
 ghost use mathlib.Core.Bool.{true, _&&_};
-ghost use Rattle.formats.specs.Codes.{A8R8G8B8};
+ghost use Rattle.formats.specs.Codes.{A8R8G8B8, A16B16G16R16};
 ghost use Rattle.formats.specs.Classes.{isConvertibleRgb, isPackedYuv, isPlanarYuv, isWideRgba};
 ghost use Rattle.planar_yuv.specs.Offsets.{uOffset, vOffset};
 ghost use Rattle.planar_yuv.specs.Answers.{Legal, TexelOf};
@@ -19,6 +23,7 @@ ghost use Rattle.pixel_convert.specs.Regions.{opaqueOf, texelOf, texelAt
 ghost use Rattle.pixel_convert.specs.Rows.{RowFits};
 ghost use Rattle.pixel_convert.specs.Planar.{LayoutFor};
 use formats::D3DFMT_A8R8G8B8;
+use formats::D3DFMT_A16B16G16R16;
 use formats::D3DFMT_YV12;
 use planar_yuv::PlanarYuvAnswer;
 use planar_yuv::PlanarYuvLayout;
@@ -614,9 +619,43 @@ fn store(
     encode_rgb_pixel(d3d_format, t, &mut dst[to..]);
 }
 
+// The texel of A16B16G16R16 at slice z, row y and column x.
+fn fetch_a16b16g16r16(
+    src: &[u8],
+    pitch: usize,
+    slice_pitch: usize,
+    z: usize,
+    y: usize,
+    x: usize,
+) -> Texel
+    requires { ⌜ placesIn (length (now src)) (placesAt A16B16G16R16 pitch «slice_pitch» z y x) ≡ true ⌝ }
+    ensures { λ r. ⌜ r ≡ texelAt (now (src .entry)) A16B16G16R16 pitch «slice_pitch» z y x ⌝ }
+{
+    let from = z * slice_pitch + y * pitch + x * 8;
+    decode_a16b16g16r16(&src[from..])
+}
+
+// A texel's bytes in A8R8G8B8 at slice z, row y and column x.
+fn store_a8r8g8b8(
+    dst: &mut [u8],
+    pitch: usize,
+    slice_pitch: usize,
+    z: usize,
+    y: usize,
+    x: usize,
+    t: Texel,
+)
+    requires { ⌜ texelStart pitch «slice_pitch» 4 z y x + 4 ≤ length (now dst) ⌝ }
+    ensures { λ _. ⌜ now (dst .exit) ≡ sets (now (dst .entry)) (texelStart pitch «slice_pitch» 4 z y x) (encodedBytes A8R8G8B8 t) ⌝ }
+{
+    let to = z * slice_pitch + y * pitch + x * 4;
+    words::put32(&mut dst[to..], encode_a8r8g8b8(t));
+}
+
 // ---- a region
 
-fn convert_row(
+// A row of any two formats, which each texel's fetch and store select by.
+fn texel_row(
     dst: &mut [u8],
     dst_format: u32,
     src: &[u8],
@@ -646,6 +685,49 @@ fn convert_row(
         store(dst, dst_format, to_size, dp, ds, z, dy, dx + col, t);
         col += 1;
     }
+}
+
+// A row of A16B16G16R16 into A8R8G8B8, with no selection by format.
+fn wide_row(dst: &mut [u8], src: &[u8], region: ConvertRegion, z: usize, row: usize)
+    requires { ⌜ RowFits (length (now src)) (length (now dst)) A16B16G16R16 A8R8G8B8 region z row ⌝ }
+    ensures { λ _. ⌜ now (dst .exit) ≡ rowWritten (now (src .entry)) A16B16G16R16 A8R8G8B8 region z row (now (dst .entry)) ⌝ }
+{
+    let from_x = region.src_x as usize;
+    let to_x = region.dst_x as usize;
+    let from_y = region.src_y as usize + row;
+    let to_y = region.dst_y as usize + row;
+    let from_pitch = region.src_pitch;
+    let to_pitch = region.dst_pitch;
+    let from_slice = region.src_slice_pitch;
+    let to_slice = region.dst_slice_pitch;
+    let texels = region.width as usize;
+    let mut k: usize = 0;
+    while k < texels {
+        let t = fetch_a16b16g16r16(src, from_pitch, from_slice, z, from_y, from_x + k);
+        store_a8r8g8b8(dst, to_pitch, to_slice, z, to_y, to_x + k, t);
+        k += 1;
+    }
+}
+
+fn convert_row(
+    dst: &mut [u8],
+    dst_format: u32,
+    src: &[u8],
+    src_format: u32,
+    region: ConvertRegion,
+    z: usize,
+    row: usize,
+)
+    requires { ⌜ RowFits (length (now src)) (length (now dst)) «src_format» «dst_format» region z row ⌝ }
+    ensures { λ _. ⌜ now (dst .exit) ≡ rowWritten (now (src .entry)) «src_format» «dst_format» region z row (now (dst .entry)) ⌝ }
+{
+    if is_wide_pair(src_format, dst_format) {
+        if src_format == D3DFMT_A16B16G16R16 {
+            wide_row(dst, src, region, z, row);
+            return;
+        }
+    }
+    texel_row(dst, dst_format, src, src_format, region, z, row);
 }
 
 fn convert_slice(

@@ -1,6 +1,11 @@
-// Replays recorded answers of the original: reads the file `vectors`, records of four little-endian 32-bit words (call, a, b,
-// answer), computes each call anew, and prints for each call how many cases there are and how many of them differ.
-// oracle/README.md lists the calls and says how the file was made.
+// Replays recorded answers of the original: reads the files `vectors`, `values` and `buffers`, computes each call anew, and
+// prints for each call how many cases there are and how many of them differ. `vectors` has records of four little-endian
+// 32-bit words (call, a, b, answer) for the arithmetic of one channel; the other two have records for every public call, which
+// src/values.rt and src/buffers.rt describe. oracle/record.rs recorded all three from the original Rust; oracle/README.md
+// lists the calls.
+mod buffers;
+mod values;
+
 ghost use Prim.Native.Nat.{_≤_, _<_};
 ghost use lib.ListN.{length};
 use libc::STDOUT_FILENO;
@@ -42,43 +47,87 @@ fn nearest_code(channel: u8, max: u32) -> u32 {
 
 // A call that is not one of the list counts as call 0.
 fn place_of(call: u32) -> usize
-    ensures { λ r. ⌜ r < 16 ⌝ }
+    ensures { λ r. ⌜ r < 32 ⌝ }
 {
-    if call < 16 { call as usize } else { 0 }
+    if call < 32 { call as usize } else { 0 }
 }
 
 // One more case of a call.
-fn count(counts: &mut [u64; 16], call: u32) {
+fn count(counts: &mut [u64; 32], call: u32) {
     let place = place_of(call);
     if counts[place] < 1000000 {
         counts[place] += 1;
     }
 }
 
-fn replay_case(case: &[u8], cases: &mut [u64; 16], differ: &mut [u64; 16])
+// Whether the record of the file `vectors` holds.
+fn vector_agrees(call: u32, case: &[u8]) -> bool
     requires { ⌜ 16 ≤ length (now case) ⌝ }
 {
-    let call = words::le32(case);
     let a = words::le32(&case[4..]);
     let b = words::le32(&case[8..]);
-    let expected = words::le32(&case[12..]);
+    answer(call, a, b) == words::le32(&case[12..])
+}
+
+// Whether the record holds; its length tells the file.
+fn agrees(call: u32, case: &[u8], size: usize) -> bool
+    requires { ⌜ 16 ≤ length (now case) ⌝ }
+    requires { ⌜ size ≤ length (now case) ⌝ }
+{
+    match size {
+        64 => values::agrees(call, case),
+        512 => buffers::agrees(call, case),
+        _ => vector_agrees(call, case),
+    }
+}
+
+fn replay_case(
+    case: &[u8],
+    size: usize,
+    cases: &mut [u64; 32],
+    refused: &mut [u64; 32],
+    differ: &mut [u64; 32],
+)
+    requires { ⌜ 16 ≤ length (now case) ⌝ }
+    requires { ⌜ size ≤ length (now case) ⌝ }
+{
+    let call = words::le32(case);
     count(cases, call);
-    if answer(call, a, b) != expected {
+    if size > 16 && words::le32(&case[4..]) != 0 {
+        count(refused, call);
+    }
+    if !agrees(call, case, size) {
         count(differ, call);
     }
 }
 
-fn replay_records(records: &[u8], cases: &mut [u64; 16], differ: &mut [u64; 16]) {
-    let n = records.len() / 16;
-    let mut i = 0;
-    while i < n {
-        replay_case(&records[i * 16..], cases, differ);
-        i += 1;
+fn replay_records(
+    records: &[u8],
+    size: usize,
+    cases: &mut [u64; 32],
+    refused: &mut [u64; 32],
+    differ: &mut [u64; 32],
+)
+    requires { ⌜ 16 ≤ size ⌝ }
+{
+    let n = records.len();
+    let mut at = 0;
+    while n - at >= size {
+        replay_case(&records[at..], size, cases, refused, differ);
+        at += size;
     }
 }
 
 // The file is read in whole records; one that is longer than 64 MB is not read to its end.
-fn replay_file(fd: i32, cases: &mut [u64; 16], differ: &mut [u64; 16]) {
+fn replay_file(
+    fd: i32,
+    size: usize,
+    cases: &mut [u64; 32],
+    refused: &mut [u64; 32],
+    differ: &mut [u64; 32],
+)
+    requires { ⌜ 16 ≤ size ⌝ }
+{
     let mut buf = io::large_buffer();
     let mut turns: usize = 0;
     while turns < 1024 {
@@ -86,9 +135,28 @@ fn replay_file(fd: i32, cases: &mut [u64; 16], differ: &mut [u64; 16]) {
         if n == 0 {
             return;
         }
-        replay_records(&buf[..n], cases, differ);
+        replay_records(&buf[..n], size, cases, refused, differ);
         turns += 1;
     }
+}
+
+// Replays a file of records of this size, if it is there.
+fn replay(
+    path: &[u8],
+    size: usize,
+    cases: &mut [u64; 32],
+    refused: &mut [u64; 32],
+    differ: &mut [u64; 32],
+)
+    requires { ⌜ 16 ≤ size ⌝ }
+{
+    let fd = os::open_read(path);
+    if fd < 0 {
+        os::fail(path);
+        return;
+    }
+    replay_file(fd, size, cases, refused, differ);
+    libc::close(fd);
 }
 
 fn print_call(name: &[u8], cases: u64, differ: u64) {
@@ -99,7 +167,18 @@ fn print_call(name: &[u8], cases: u64, differ: u64) {
     io::write_all(STDOUT_FILENO, b" differ\n");
 }
 
-fn print_counts(cases: [u64; 16], differ: [u64; 16]) {
+// A public call, with how many of its cases the original refuses.
+fn print_public(name: &[u8], cases: u64, refused: u64, differ: u64) {
+    io::write_all(STDOUT_FILENO, name);
+    io::print_decimal(STDOUT_FILENO, cases);
+    io::write_all(STDOUT_FILENO, b" cases, ");
+    io::print_decimal(STDOUT_FILENO, differ);
+    io::write_all(STDOUT_FILENO, b" differ; ");
+    io::print_decimal(STDOUT_FILENO, refused);
+    io::write_all(STDOUT_FILENO, b" refused\n");
+}
+
+fn print_counts(cases: [u64; 32], differ: [u64; 32]) {
     print_call(b"expand4             ", cases[1], differ[1]);
     print_call(b"expand5             ", cases[2], differ[2]);
     print_call(b"expand6             ", cases[3], differ[3]);
@@ -115,19 +194,97 @@ fn print_counts(cases: [u64; 16], differ: [u64; 16]) {
     print_call(b"f32_to_unorm8       ", cases[13], differ[13]);
     print_call(b"linear_row_pitch    ", cases[14], differ[14]);
     print_call(b"bytes_per_texel     ", cases[15], differ[15]);
-    print_call(b"other calls         ", cases[0], differ[0]);
+}
+
+fn print_public_counts(cases: [u64; 32], refused: [u64; 32], differ: [u64; 32]) {
+    print_public(
+        b"can_convert                  ",
+        cases[16],
+        refused[16],
+        differ[16],
+    );
+    print_public(
+        b"can_convert_update           ",
+        cases[17],
+        refused[17],
+        differ[17],
+    );
+    print_public(
+        b"yuv_to_rgb8                  ",
+        cases[18],
+        refused[18],
+        differ[18],
+    );
+    print_public(
+        b"planar_yuv_layout            ",
+        cases[19],
+        refused[19],
+        differ[19],
+    );
+    print_public(
+        b"planar_yuv_layout_from_pitch ",
+        cases[20],
+        refused[20],
+        differ[20],
+    );
+    print_public(
+        b"plane_layout                 ",
+        cases[21],
+        refused[21],
+        differ[21],
+    );
+    print_public(
+        b"d3dcolor_fill_pixel_bytes    ",
+        cases[22],
+        refused[22],
+        differ[22],
+    );
+    print_public(
+        b"f32_to_f16_bits              ",
+        cases[23],
+        refused[23],
+        differ[23],
+    );
+    print_public(
+        b"d3dcolor_to_rgba_f32         ",
+        cases[24],
+        refused[24],
+        differ[24],
+    );
+    print_public(
+        b"convert_region               ",
+        cases[25],
+        refused[25],
+        differ[25],
+    );
+    print_public(
+        b"unpack                       ",
+        cases[26],
+        refused[26],
+        differ[26],
+    );
+    print_public(
+        b"pack                         ",
+        cases[27],
+        refused[27],
+        differ[27],
+    );
+    print_public(
+        b"splat_pixel_pattern          ",
+        cases[28],
+        refused[28],
+        differ[28],
+    );
 }
 
 fn main() {
-    let path = b"vectors";
-    let fd = os::open_read(path);
-    if fd < 0 {
-        os::fail(path);
-        return;
-    }
-    let mut cases = [0u64; 16];
-    let mut differ = [0u64; 16];
-    replay_file(fd, &mut cases, &mut differ);
-    libc::close(fd);
+    let mut cases = [0u64; 32];
+    let mut refused = [0u64; 32];
+    let mut differ = [0u64; 32];
+    replay(b"vectors", 16, &mut cases, &mut refused, &mut differ);
+    replay(b"values", 64, &mut cases, &mut refused, &mut differ);
+    replay(b"buffers", 512, &mut cases, &mut refused, &mut differ);
     print_counts(cases, differ);
+    print_public_counts(cases, refused, differ);
+    print_call(b"other calls         ", cases[0], differ[0]);
 }

@@ -79,7 +79,7 @@ part-encode-d24s8-end : tie.Need-part-encode-d24s8-end Inv-loop μ-loop
 part-encode-d24s8-end c = omega (arith, dst-in (c .before .before))
 
 encode-d24s8-requires : tie.Need-encode-d24s8-requires Inv-loop μ-loop
-encode-d24s8-requires c κs = simp (length-take, length-drop) (omega (arith, dst-in (c .before .before .before)))
+encode-d24s8-requires c κs = (simp (length-take, length-drop) (omega (arith, dst-in (c .before .before .before))), c .before .before .load-depth .ensures .1)
 
 add-x : tie.Need-add-x Inv-loop μ-loop
 add-x c = omega (arith, dst-in (c .before .before .before .before .before .before), start (c .before .before .before .before .before .before) .good .0 .0)
@@ -95,7 +95,7 @@ loop-again c =
     let packed = i .before .loop .packed in
     let r = c .before .before .before .before .before .load-depth in
     let e = pixel-stored codes.D24S8 4 (now (g .depth)) (now (g .stencil)) packed (g .from + x * 4) (g .at + x * 1) (g .to + x * 4) (record { depth = r .result; stencil = getD (now (g .stencil)) (g .at + x) 0 }) _ size-d24s8 (dst-in i)
-    (pixel-encoded codes.D24S8 (now (g .depth)) (now (g .stencil)) (g .from + x * 4) (g .at + x * 1) (r .result) (getD (now (g .stencil)) (g .at + x) 0) (r .ensures) (stencil-read (now (g .stencil)) (g .at) x)) (c .before .before .encode-d24s8 .ensures) in (
+    (pixel-encoded codes.D24S8 (now (g .depth)) (now (g .stencil)) (g .from + x * 4) (g .at + x * 1) (r .result) (getD (now (g .stencil)) (g .at + x) 0) (r .ensures .0) (stencil-read (now (g .stencil)) (g .at) x)) (c .before .before .encode-d24s8 .ensures) in (
       row-more (g .to) 4 (λ k. packedBytes codes.D24S8 (now (g .depth)) (now (g .stencil)) (g .from + k * 4) (g .at + k * 1)) x (now (g .packed)) packed _ (i .before .loop .inv .0) e,
       ap length e ∙ length-sets packed (g .to + x * 4) (packedBytes codes.D24S8 (now (g .depth)) (now (g .stencil)) (g .from + x * 4) (g .at + x * 1)) ∙ i .before .loop .inv .1,
       omega (arith, i .loop-test .taken),

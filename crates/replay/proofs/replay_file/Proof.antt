@@ -7,10 +7,10 @@ use Rattle.replay.proofs.replay_file.Statement.{statement}
 use Rattle.replay.proofs.replay_file.Tie as tie
 
 abbrev Inv-loop : tie.InvT-loop
-Inv-loop fd cases₀ differ₀ buf₀ turns₀ cases differ buf turns = (turns ≤ 1024) × (65536 ≡ length buf)
+Inv-loop fd size cases₀ refused₀ differ₀ buf₀ turns₀ cases refused differ buf turns = (turns ≤ 1024) × (65536 ≡ length buf)
 
 abbrev μ-loop : tie.MeasureT-loop
-μ-loop fd cases₀ differ₀ buf₀ turns₀ cases differ buf turns = 1024 - turns
+μ-loop fd size cases₀ refused₀ differ₀ buf₀ turns₀ cases refused differ buf turns = 1024 - turns
 
 large-buffer-requires : tie.Need-large-buffer-requires Inv-loop μ-loop
 large-buffer-requires c κs = search needs

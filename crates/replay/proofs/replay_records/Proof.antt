@@ -1,20 +1,21 @@
--- `replay::replay_records` meets its contract: i records of 16 bytes lie before the one that is lent. Assumes nothing.
+-- `replay::replay_records` meets its contract: the records before byte `at` are whole, and one more fits behind it. Assumes nothing.
 use Prim.Native.Nat.{_≤_, _-_}
 use borrow.Author.Needs.{needs}
 use Rattle.replay.proofs.replay_records.Statement.{statement}
 use Rattle.replay.proofs.replay_records.Tie as tie
+use Rattle.replay.proofs.replay_case.Reads as replay-case-reads
 
 abbrev Inv-loop : tie.InvT-loop
-Inv-loop records cases₀ differ₀ n i₀ cases differ i = i ≤ n
+Inv-loop records size cases₀ refused₀ differ₀ n at₀ cases refused differ at = at ≤ n
 
 abbrev μ-loop : tie.MeasureT-loop
-μ-loop records cases₀ differ₀ n i₀ cases differ i = n - i
+μ-loop records size cases₀ refused₀ differ₀ n at₀ cases refused differ at = n - at
 
 loop-holds : tie.Need-loop-holds Inv-loop μ-loop
 loop-holds c = search needs
 
-mul-replay-case : tie.Need-mul-replay-case Inv-loop μ-loop
-mul-replay-case c = search needs
+sub-loop : tie.Need-sub-loop Inv-loop μ-loop
+sub-loop c = search needs
 
 sub-replay-case : tie.Need-sub-replay-case Inv-loop μ-loop
 sub-replay-case c = search needs
@@ -28,8 +29,8 @@ part-replay-case-end c = search needs
 replay-case-requires : tie.Need-replay-case-requires Inv-loop μ-loop
 replay-case-requires c κs = search needs
 
-add-i : tie.Need-add-i Inv-loop μ-loop
-add-i c = search needs
+add-at : tie.Need-add-at Inv-loop μ-loop
+add-at c = search needs
 
 loop-less : tie.Need-loop-less Inv-loop μ-loop
 loop-less c = search needs
@@ -47,12 +48,12 @@ replay-records-spec =
     Inv-loop
     μ-loop
     loop-holds
-    mul-replay-case
+    sub-loop
     sub-replay-case
     part-replay-case-start
     part-replay-case-end
     replay-case-requires
-    add-i
+    add-at
     loop-less
     loop-again
     returns)
