@@ -28,7 +28,7 @@ pub record Channels (color r g b a : ℕ) : Type 0 where
   pub blue : b ≡ byteOf color blue
   pub alpha : a ≡ byteOf color alpha
 
--- a byte as a binary32 number: one division of two whole numbers by 255
+-- a byte as a binary32 number: one division of a whole number by 255
 abbrev pub unormOf : ℕ → Float
 unormOf v = div binary32 (ofInt binary32 (pos v)) (ofInt binary32 (pos 255))
 

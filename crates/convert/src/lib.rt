@@ -402,9 +402,10 @@ pub fn d3dcolor_fill_pixel_bytes(color: u32, d3d_format: u32) -> FillPixel
     ensures reply { λ r. ⌜ replyNumber (r .reply) ≡ fillOf color «d3d_format» .reply ⌝ }
 {
     let c = channels_of(color);
-    match d3d_format {
-        D3DFMT_A8R8G8B8 | D3DFMT_X8R8G8B8 => fill4(color),
-        D3DFMT_A8B8G8R8 | D3DFMT_X8B8G8R8 => fill4(pack_a8b8g8r8(c)),
+    let code = d3d_format;
+    match code {
+        D3DFMT_A8R8G8B8..=D3DFMT_X8R8G8B8 => fill4(color),
+        D3DFMT_A8B8G8R8..=D3DFMT_X8B8G8R8 => fill4(pack_a8b8g8r8(c)),
         D3DFMT_A2R10G10B10 => fill4(pack_a2_rgb10(c.a, c.r, c.g, c.b)),
         D3DFMT_A2B10G10R10 => fill4(pack_a2_rgb10(c.a, c.b, c.g, c.r)),
         D3DFMT_R5G6B5 => fill2(pack_r5g6b5(c)),

@@ -1,6 +1,6 @@
 // Packed depth pixels (D16, D24X8, D24S8), and the planes of binary32 depths and of stencil bytes that they are unpacked into and
 // packed from. Refused, before any byte is written: a plane layout with a zero size, an alignment that is no power of two, planes
-// over 64 bits, a code of no packed depth format, and buffers that are too short. specs/ has the codes (Depth), the pixels (Pixels),
+// over 64 bits, a code of no packed depth format, pitches below a row, and buffers that are too short. specs/ has the codes (Depth), the pixels (Pixels),
 // the layouts (Layouts), the refusals (Replies), what the two calls write (Planes) and what they promise (Promises).
 // Ported from depth_texture.rs of athei/mtld3d (an altered version, see NOTICE).
 use formats::D3DFMT_D16;

@@ -43,7 +43,7 @@ use Rattle.planar_yuv.specs.Offsets.{uOffset, vOffset}
 use Rattle.planar_yuv.specs.Answers.{fromWidth}
 use Rattle.wentuqis.specs.Calls.{regionOf, planesOf, rgbList, planarValues, planeValues}
 
--- a row: the numbers that document 01 prints, and the same numbers computed
+-- a row: the numbers that document 01 prints or means, and the same numbers computed
 pub record Row : Type 0 where
   pub printed : List ℕ
   pub computed : List ℕ
