@@ -167,14 +167,15 @@ fn print_call(name: &[u8], cases: u64, differ: u64) {
     io::write_all(STDOUT_FILENO, b" differ\n");
 }
 
-// A public call, with how many of its cases the original refuses.
-fn print_public(name: &[u8], cases: u64, refused: u64, differ: u64) {
+// A public call by its number, with how many of its cases the original refuses.
+fn print_public(name: &[u8], call: u32, cases: [u64; 32], refused: [u64; 32], differ: [u64; 32]) {
+    let place = place_of(call);
     io::write_all(STDOUT_FILENO, name);
-    io::print_decimal(STDOUT_FILENO, cases);
+    io::print_decimal(STDOUT_FILENO, cases[place]);
     io::write_all(STDOUT_FILENO, b" cases, ");
-    io::print_decimal(STDOUT_FILENO, differ);
+    io::print_decimal(STDOUT_FILENO, differ[place]);
     io::write_all(STDOUT_FILENO, b" differ; ");
-    io::print_decimal(STDOUT_FILENO, refused);
+    io::print_decimal(STDOUT_FILENO, refused[place]);
     io::write_all(STDOUT_FILENO, b" refused\n");
 }
 
@@ -197,84 +198,19 @@ fn print_counts(cases: [u64; 32], differ: [u64; 32]) {
 }
 
 fn print_public_counts(cases: [u64; 32], refused: [u64; 32], differ: [u64; 32]) {
-    print_public(
-        b"can_convert                  ",
-        cases[16],
-        refused[16],
-        differ[16],
-    );
-    print_public(
-        b"can_convert_update           ",
-        cases[17],
-        refused[17],
-        differ[17],
-    );
-    print_public(
-        b"yuv_to_rgb8                  ",
-        cases[18],
-        refused[18],
-        differ[18],
-    );
-    print_public(
-        b"planar_yuv_layout            ",
-        cases[19],
-        refused[19],
-        differ[19],
-    );
-    print_public(
-        b"planar_yuv_layout_from_pitch ",
-        cases[20],
-        refused[20],
-        differ[20],
-    );
-    print_public(
-        b"plane_layout                 ",
-        cases[21],
-        refused[21],
-        differ[21],
-    );
-    print_public(
-        b"d3dcolor_fill_pixel_bytes    ",
-        cases[22],
-        refused[22],
-        differ[22],
-    );
-    print_public(
-        b"f32_to_f16_bits              ",
-        cases[23],
-        refused[23],
-        differ[23],
-    );
-    print_public(
-        b"d3dcolor_to_rgba_f32         ",
-        cases[24],
-        refused[24],
-        differ[24],
-    );
-    print_public(
-        b"convert_region               ",
-        cases[25],
-        refused[25],
-        differ[25],
-    );
-    print_public(
-        b"unpack                       ",
-        cases[26],
-        refused[26],
-        differ[26],
-    );
-    print_public(
-        b"pack                         ",
-        cases[27],
-        refused[27],
-        differ[27],
-    );
-    print_public(
-        b"splat_pixel_pattern          ",
-        cases[28],
-        refused[28],
-        differ[28],
-    );
+    print_public(b"can_convert                  ", 16, cases, refused, differ);
+    print_public(b"can_convert_update           ", 17, cases, refused, differ);
+    print_public(b"yuv_to_rgb8                  ", 18, cases, refused, differ);
+    print_public(b"planar_yuv_layout            ", 19, cases, refused, differ);
+    print_public(b"planar_yuv_layout_from_pitch ", 20, cases, refused, differ);
+    print_public(b"plane_layout                 ", 21, cases, refused, differ);
+    print_public(b"d3dcolor_fill_pixel_bytes    ", 22, cases, refused, differ);
+    print_public(b"f32_to_f16_bits              ", 23, cases, refused, differ);
+    print_public(b"d3dcolor_to_rgba_f32         ", 24, cases, refused, differ);
+    print_public(b"convert_region               ", 25, cases, refused, differ);
+    print_public(b"unpack                       ", 26, cases, refused, differ);
+    print_public(b"pack                         ", 27, cases, refused, differ);
+    print_public(b"splat_pixel_pattern          ", 28, cases, refused, differ);
 }
 
 fn main() {
