@@ -1,6 +1,6 @@
 -- Classes of formats, and the pitch of a row of one-byte texels.
 -- Assumes nothing.
-use mathlib.Core.Bool.{Bool, true, false}
+use mathlib.Core.Bool.{Bool, true, false, _||_}
 use mathlib.Core.List.{List, [], _∷_}
 use Prim.Native.Nat.{ℕ, _+_, _*_, _/_}
 use lib.Dec.{eqb}
@@ -32,6 +32,10 @@ wideFormats = A16B16G16R16 ∷ A32B32G32R32F ∷ []
 
 unfoldable pub isWideRgba : ℕ → Bool
 isWideRgba f = listed f wideFormats
+
+-- the sources whose texels are words with lanes: the RGB formats, and the wide ones
+unfoldable pub isLaneSource : ℕ → Bool
+isLaneSource f = isConvertibleRgb f || isWideRgba f
 
 -- the width raised to a multiple of 4: the pitch of a row of texels of one byte
 unfoldable pub linearRowPitch : ℕ → ℕ

@@ -3,5 +3,6 @@ pub mod Codes
 pub mod Lanes
 pub mod Table
 pub mod Classes
+pub mod Listed
 pub mod Packing
 pub mod Numbers

@@ -1,23 +1,20 @@
 -- The reply and the bytes by the first check that is met, and all that the contract says of them. Assumes nothing.
-use mathlib.Core.Path.{_≡_, refl, sym, ap, _∙_, subst}
-use mathlib.Core.Bool.{Bool, true, false, not, _&&_, _||_, false≢true}
+use mathlib.Core.Path.{_≡_, refl, sym, subst}
+use mathlib.Core.Bool.{Bool, true, false, _&&_, _||_, false≢true}
 use mathlib.Core.List.{List}
-use Prim.Native.Nat.{ℕ, _+_, _≤_, _<_}
+use Prim.Native.Nat.{ℕ, _+_, _<_}
 use native.Mathlib.Omega.{arith}
 use lib.Dec.{eqb}
 use lib.ListN.{length, getD}
 use borrow.Author.Tests.{eqb-true}
-use Rattle.words.specs.Tests.{pick}
-use Rattle.words.specs.Iterate.{iterate, iterate-keeps}
-use Rattle.formats.specs.Table.{bytesOf}
-use Rattle.formats.specs.Classes.{isConvertibleRgb, isPackedYuv, isPlanarYuv, isWideRgba}
+use Rattle.words.specs.Iterate.{iterate-keeps}
+use Rattle.formats.specs.Classes.{isConvertibleRgb, isPackedYuv, isPlanarYuv, isWideRgba, isLaneSource}
 use Rattle.pixel_convert.specs.declared.ConvertRegion.{ConvertRegion}
 use Rattle.pixel_convert.specs.declared.ConvertReply.{ConvertReply}
 use Rattle.pixel_convert.specs.declared.ConvertReply.the-variants.{Accepted, Unsupported, PlanarShape, SourceOutside, DestinationOutside}
-use Rattle.pixel_convert.specs.Texels.{isLaneSource}
-use Rattle.pixel_convert.specs.Places.{isPicture}
-use Rattle.pixel_convert.specs.Inside.{inside-at, texel-fits}
-use Rattle.pixel_convert.specs.Regions.{canConvert, canConvertUpdate, badPlanarShape, isEmpty, sourceInside, destinationInside, replyTo, rowWritten, sliceWritten, regionWritten, ifAccepted, convertedBytes, InRegion, NearSource, OthersKept}
+use Rattle.places.specs.Places.{isPicture}
+use Rattle.places.specs.Inside.{inside-at, texel-fits}
+use Rattle.pixel_convert.specs.Regions.{canConvert, canConvertUpdate, badPlanarShape, isEmpty, sourceInside, destinationInside, replyTo, rowWritten, sliceWritten, regionWritten, convertedBytes, InRegion, NearSource, OthersKept}
 use Rattle.pixel_convert.specs.Promises.{convert-rgb, destination-fits, near-source, others-kept}
 use Rattle.pixel_convert.specs.Rows.{RowFits}
 

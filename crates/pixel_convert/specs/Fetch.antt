@@ -1,70 +1,28 @@
 -- The source texel by the kind of its picture, and what an offset that is worked out afresh stays below. Assumes nothing.
-use mathlib.Core.Path.{_≡_, refl, sym, ap, _∙_, subst}
-use mathlib.Core.Bool.{Bool, true, false, not, _&&_, _||_, false≢true}
+use mathlib.Core.Path.{_≡_, refl, ap, _∙_}
+use mathlib.Core.Bool.{Bool, true, false, _&&_, _||_, false≢true}
 use mathlib.Core.List.{List, [], _∷_}
-use Prim.Native.Nat.{ℕ, _+_, _*_, _/_, _%_, _≤_, _<_}
+use Prim.Native.Nat.{ℕ, _+_, _/_, _%_, _≤_, _<_}
 use native.Mathlib.Omega.{arith}
-use lib.Dec.{T, eqb, leb, ltb, ltb→lt}
-use lib.ListN.{length, getD, take, drop}
+use lib.Dec.{eqb, ltb}
+use lib.ListN.{length, take, drop}
 use lib.Seq.{getD-take}
-use borrow.Author.Tests.{leb-true}
+use borrow.Author.Tests.{ltb-true}
 use Rattle.words.specs.Little.{number}
-use Rattle.words.specs.Tests.{pick}
-use Rattle.formats.specs.Codes.{YUY2, YV12, NV12}
-use Rattle.formats.specs.Table.{partsOf, bytesOf}
-use Rattle.formats.specs.Classes.{wideFormats, isConvertibleRgb, isPackedYuv, isPlanarYuv, isWideRgba}
+use Rattle.words.specs.Tests.{pick, and-left, and-right}
+use Rattle.formats.specs.Codes.{YUY2}
+use Rattle.formats.specs.Table.{bytesOf}
+use Rattle.formats.specs.Classes.{isPackedYuv, isPlanarYuv}
+use Rattle.formats.specs.Listed.{planar-not-packed}
 use Rattle.planar_yuv.specs.declared.PlanarYuvLayout.{PlanarYuvLayout}
-use Rattle.planar_yuv.specs.Offsets.{contains, contains-yes}
+use Rattle.planar_yuv.specs.Offsets.{contains, contains-is, contains-yes, lumaOffset, uOffset, vOffset}
+use Rattle.planar_yuv.specs.Answers.{Legal}
 use Rattle.stretch_rect.specs.Yuv.{bt601, rgbOf}
 use Rattle.stretch_rect.specs.Samples.{lumaPlace, uPlace, vPlace, packedRgb, planarRgb, Readable}
-use Rattle.pixel_convert.specs.declared.Texel.{Texel}
-use Rattle.pixel_convert.specs.Texels.{isLaneSource, decodedOf}
-use Rattle.pixel_convert.specs.Bounds.{listed-at}
-use Rattle.pixel_convert.specs.Places.{isPicture, Places, absent, offsets, run, texelStart, layoutPlaces, planarPlaces, placesAt, placesIn, bytesAt}
-use Rattle.pixel_convert.specs.Inside.{lane-places, packed-places, planar-places, run-in, bytes-run}
+use Rattle.texels.specs.Texels.{decodedOf}
+use Rattle.places.specs.Places.{absent, offsets, run, texelStart, layoutPlaces, planarPlaces, placesIn, bytesAt}
+use Rattle.places.specs.Inside.{lane-places, packed-places, planar-places, bytes-run}
 use Rattle.pixel_convert.specs.Regions.{isYuv, lumaOf, uOf, vOf, opaqueOf, texelOf, texelAt}
-use Rattle.pixel_convert.specs.Promises.{rgb-some}
-
--- ---- kinds of pictures
-is-false : (b : Bool) → T (not b) → b ≡ false
-is-false true t = absurd t
-is-false false t = refl
-
-pub planar-not-packed : (f : ℕ) → isPlanarYuv f ≡ true → isPackedYuv f ≡ false
-unfolding isPlanarYuv isPackedYuv
-planar-not-packed f h = is-false (isPackedYuv f) (listed-at (λ g. not (isPackedYuv g)) (NV12 ∷ YV12 ∷ []) tt f h)
-
--- a picture that is no YUV has lanes
-pub lanes-left : (f : ℕ) → isPicture f ≡ true → isPlanarYuv f ≡ false → isPackedYuv f ≡ false → isLaneSource f ≡ true
-unfolding isPicture
-lanes-left f h p q = go (isLaneSource f) (sym (ap (λ b. isLaneSource f || isPackedYuv f || b) p ∙ ap (λ b. isLaneSource f || b || false) q) ∙ h)
-  where
-    go : (b : Bool) → (b || false || false) ≡ true → b ≡ true
-    go true k = refl
-    go false k = k
-
-pub lane-some : (f : ℕ) → isLaneSource f ≡ true → 0 < bytesOf f
-unfolding isLaneSource isWideRgba bytesOf partsOf
-lane-some f h = go (isConvertibleRgb f) (isWideRgba f) refl refl h
-  where
-    go : (a b : Bool) → isConvertibleRgb f ≡ a → isWideRgba f ≡ b → (a || b) ≡ true → 0 < bytesOf f
-    go true b e g k = rgb-some f e
-    go false true e g k = ltb→lt 0 (bytesOf f) (listed-at (λ g. ltb 0 (bytesOf g)) wideFormats tt f g)
-    go false false e g k = absurd (false≢true k)
-
--- ---- where a texel ends
-module _ (len f pitch slice-pitch z y x : ℕ) (h : placesIn len (placesAt f pitch slice-pitch z y x) ≡ true) where
-  pub lane-ends : isPlanarYuv f ≡ false → isPackedYuv f ≡ false → 0 < bytesOf f → texelStart pitch slice-pitch (bytesOf f) z y x + bytesOf f ≤ len
-  unfolding placesIn
-  lane-ends p q s =
-      leb-true _ len
-      (sym (run-in len (texelStart pitch slice-pitch (bytesOf f) z y x) (bytesOf f) s) ∙ sym (ap (placesIn len) (lane-places f pitch slice-pitch z y x p q)) ∙ h)
-
-  pub packed-ends : isPlanarYuv f ≡ false → isPackedYuv f ≡ true → texelStart pitch slice-pitch 4 z y (x / 2) + 4 ≤ len
-  unfolding placesIn
-  packed-ends p q =
-      leb-true _ len
-      (sym (run-in len (texelStart pitch slice-pitch 4 z y (x / 2)) 4 (omega arith)) ∙ sym (ap (placesIn len) (packed-places f pitch slice-pitch z y x p q)) ∙ h)
 
 -- ---- the texel of each kind
 module _ (src : List ℕ) (f pitch slice-pitch z y x : ℕ) where
@@ -110,6 +68,34 @@ packed-opaque f odd l q =
     let g = getD-take 4 l (uPlace f) 0 (k .1) in
     let h = getD-take 4 l (vPlace f) 0 (k .2) in
     rw (q, e, g, h) refl
+
+-- the texel of a layout whose bytes lie within a frame
+pub readable : (f : ℕ) (frame : List ℕ) (l : PlanarYuvLayout) (y x : ℕ) → Legal l → placesIn (length frame) (layoutPlaces f (l .pitch) (l .«luma_rows») y x) ≡ true
+    → Readable f frame l x y
+unfolding placesIn
+readable f frame l y x g h = go (contains (l .pitch) (l .«luma_rows») x y) refl h
+  where
+    lo : ℕ
+    lo = lumaOffset (l .pitch) x y
+
+    uo : ℕ
+    uo = uOffset f (l .pitch) (l .«luma_rows») x y
+
+    vo : ℕ
+    vo = vOffset f (l .pitch) (l .«luma_rows») x y
+
+    go : (t : Bool) → contains (l .pitch) (l .«luma_rows») x y ≡ t → placesIn (length frame) (pick t (offsets (lo ∷ uo ∷ vo ∷ [])) absent) ≡ true → Readable f frame l x y
+    go true e k =
+        let i = contains-is (l .pitch) (l .«luma_rows») x y e in
+        let n = length frame in
+        let rest = and-right (ltb lo n) (ltb uo n && (ltb vo n && true)) k in
+        record {
+          texel = record { legal = g; column = i .0; row = i .1 };
+          luma-read = ltb-true lo n (and-left (ltb lo n) (ltb uo n && (ltb vo n && true)) k);
+          u-read = ltb-true uo n (and-left (ltb uo n) (ltb vo n && true) rest);
+          v-read = ltb-true vo n (and-left (ltb vo n) true (and-right (ltb uo n) (ltb vo n && true) rest));
+        }
+    go false e k = absurd (false≢true k)
 
 -- a planar texel
 pub planar-opaque : (f : ℕ) (odd : Bool) (src : List ℕ) (l : PlanarYuvLayout) (x y : ℕ) → isPlanarYuv f ≡ true → Readable f src l x y

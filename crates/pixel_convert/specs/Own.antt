@@ -1,50 +1,21 @@
 -- After an accepted conversion: where destination texels share no byte, each holds its own bytes, and so lies near its source; and a byte of
 -- no destination texel is as it was. Assumes nothing.
-use mathlib.Core.Path.{_≡_, refl, sym, ap, _∙_, subst}
-use mathlib.Core.Bool.{Bool, true, false, not, _&&_, _||_, false≢true}
-use mathlib.Core.List.{List, [], _∷_}
+use mathlib.Core.Path.{_≡_, refl, sym, ap, _∙_}
+use mathlib.Core.List.{List}
 use mathlib.Core.Logic.{_⊎_, inl, inr, ⊎-elim}
-use Prim.Native.Nat.{ℕ, zero, suc, _+_, _*_, _-_, _%_, _≤_, _<_}
-use native.Mathlib.Nat.{not-suc-le-zero}
+use Prim.Native.Nat.{ℕ, _+_, _≤_, _<_}
 use native.Mathlib.Omega.{arith}
-use lib.Dec.{eqb, leb}
 use lib.ListN.{length, getD, take, drop}
 use lib.Seq.{sets, length-sets}
-use borrow.Author.Tests.{leb-true, not-false}
-use Rattle.words.specs.Little.{Small, number, length-bytes}
-use Rattle.words.specs.Tests.{pick, and-left, and-right, lt-or-eq}
-use Rattle.words.specs.Iterate.{iterate, iterate-keeps, iterate-length}
+use Rattle.words.specs.Little.{length-bytes}
+use Rattle.words.specs.Iterate.{iterate-keeps, iterate-length, iterate-makes}
 use Rattle.words.specs.Slices.{sets-before, sets-after, sets-read, part-apart}
-use Rattle.formats.specs.Lanes.{Channel}
-use Rattle.formats.specs.Table.{laneOf, bytesOf}
-use Rattle.formats.specs.Classes.{isConvertibleRgb, isPackedYuv, isPlanarYuv}
+use Rattle.formats.specs.Table.{bytesOf}
 use Rattle.channels.specs.Nearest.{split}
-use Rattle.channels.specs.Fractions.{_over_, Near, whole-near}
-use Rattle.stretch_rect.specs.Yuv.{bt601, rgbOf}
-use Rattle.stretch_rect.specs.Exact.{RgbStands, bt601-stands}
-use Rattle.pixel_convert.specs.declared.Texel.{Texel}
+use Rattle.texels.specs.declared.Texel.{Texel}
 use Rattle.pixel_convert.specs.declared.ConvertRegion.{ConvertRegion}
-use Rattle.pixel_convert.specs.declared.ConvertReply.{ConvertReply}
-use Rattle.pixel_convert.specs.declared.ConvertReply.the-variants.{Accepted, Unsupported, PlanarShape, SourceOutside, DestinationOutside}
-use Rattle.pixel_convert.specs.Texels.{decodedOf, encodedBytes, encodedOf, exactOf, Values, valueOf, Stands, isColour, Holds}
-use Rattle.pixel_convert.specs.Bounds.{decoded-stands, near-bytes}
-use Rattle.pixel_convert.specs.Places.{Places, absent, offsets, texelStart, placesAt, bytesFrom, bytesAt, placesIn, allBelow, run}
-use Rattle.pixel_convert.specs.Inside.{inside-at, TexelFits, texel-fits, lane-places, run-in}
-use Rattle.pixel_convert.specs.Regions.{canConvert, canConvertUpdate, isYuv, lumaOf, uOf, vOf, opaqueOf, texelOf, yuvValues, valuesOf, texelAt, exactAt, badPlanarShape, isEmpty, sourceInside, destinationInside, replyTo, toAt, sourceTexel, sourceValues, written, rowWritten, sliceWritten, regionWritten, ifAccepted, convertedBytes, InRegion, ByteOf, Disjoint, NearSource, OthersKept}
-
--- what one step makes and the others keep, the whole makes
-pub iterate-makes : {A : Type 0} (I P : A → Type 0) (f : ℕ → A → A) (n m : ℕ) → m < n
-    → ((k : ℕ) (b : A) → I b → I (f k b))
-    → ((b : A) → I b → P (f m b))
-    → ((k : ℕ) → k < n → (k ≡ m → ⊥) → (b : A) → P b → P (f k b))
-    → (a : A) → I a → P (iterate f n a)
-unfolding iterate
-iterate-makes I P f zero m lt inv make keep a i = absurd (not-suc-le-zero lt)
-iterate-makes I P f (suc n) m lt inv make keep a i =
-    ⊎-elim
-    (λ less. keep n (omega arith) (λ e. omega arith) (iterate f n a) (iterate-makes I P f n m less inv make (λ k l. keep k (omega arith)) a i))
-    (λ same. subst (λ k. P (f k (iterate f n a))) same (make (iterate f n a) (iterate-keeps I f n (λ k l. inv k) a i)))
-    (lt-or-eq m n lt)
+use Rattle.texels.specs.Texels.{encodedBytes, encodedOf}
+use Rattle.pixel_convert.specs.Regions.{toAt, sourceTexel, written, rowWritten, sliceWritten, regionWritten, InRegion, ByteOf, Disjoint}
 
 pub encoded-length : (d : ℕ) (t : Texel) → length (encodedBytes d t) ≡ bytesOf d
 unfolding encodedBytes

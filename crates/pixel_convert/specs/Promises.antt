@@ -2,50 +2,31 @@
 use mathlib.Core.Path.{_≡_, refl, sym, ap, _∙_, subst}
 use mathlib.Core.Bool.{Bool, true, false, not, _&&_, _||_, false≢true}
 use mathlib.Core.List.{List, [], _∷_}
-use Prim.Native.Nat.{ℕ, zero, suc, _+_, _*_, _-_, _%_, _≤_, _<_, min}
+use Prim.Native.Nat.{ℕ, zero, suc, _+_, _≤_, _<_}
 use native.Mathlib.Omega.{arith}
 use lib.IntN.{ℤ, pos, negsuc}
-use lib.Dec.{T, eqb, leb, ltb, ltb→lt}
+use lib.Dec.{eqb}
 use lib.ListN.{length, getD, take, drop}
-use borrow.Author.Tests.{leb-true, eqb-true, ne-eqb}
+use borrow.Author.Tests.{eqb-true, ne-eqb}
 use Rattle.words.specs.Little.{number}
 use Rattle.words.specs.Tests.{pick}
-use Rattle.words.specs.Computed.{both, both-left, both-right}
 use Rattle.formats.specs.Codes.{A8R8G8B8}
-use Rattle.formats.specs.Lanes.{Channel}
-use Rattle.formats.specs.Table.{laneOf, partsOf, bytesOf}
-use Rattle.formats.specs.Classes.{rgbFormats, isConvertibleRgb, isPackedYuv, isPlanarYuv, isWideRgba}
-use Rattle.channels.specs.Fractions.{_over_, Near, whole-near}
-use Rattle.stretch_rect.specs.Yuv.{bt601, rgbOf, redRounded, greenRounded, blueRounded, decimalUnit, redDecimal, greenDecimal, blueDecimal}
-use Rattle.stretch_rect.specs.Exact.{RgbStands, bt601-stands}
+use Rattle.formats.specs.Table.{laneOf, bytesOf}
+use Rattle.formats.specs.Classes.{isConvertibleRgb, isPackedYuv, isPlanarYuv, isWideRgba}
+use Rattle.formats.specs.Listed.{rgb-some, rgb-not-planar, rgb-not-packed}
+use Rattle.channels.specs.Fractions.{whole-near}
+use Rattle.stretch_rect.specs.Yuv.{bt601, rgbOf, redRounded, greenRounded, blueRounded}
+use Rattle.stretch_rect.specs.Exact.{bt601-stands}
 use Rattle.words.specs.Integers.{clampTo}
-use Rattle.pixel_convert.specs.declared.Texel.{Texel}
 use Rattle.pixel_convert.specs.declared.ConvertRegion.{ConvertRegion}
 use Rattle.pixel_convert.specs.declared.ConvertReply.{ConvertReply}
 use Rattle.pixel_convert.specs.declared.ConvertReply.the-variants.{Accepted, Unsupported, PlanarShape, SourceOutside, DestinationOutside}
-use Rattle.pixel_convert.specs.Texels.{decodedOf, exactOf, encodedBytes, valueOf, Stands, isColour, Holds}
-use Rattle.pixel_convert.specs.Bounds.{listed-at, decoded-stands, near-bytes}
-use Rattle.pixel_convert.specs.Places.{Places, absent, offsets, run, texelStart, placesAt, bytesFrom, bytesAt, placesIn}
-use Rattle.pixel_convert.specs.Inside.{inside-at, texel-fits, lane-places, run-in}
-use Rattle.pixel_convert.specs.Regions.{canConvert, canConvertUpdate, isYuv, lumaOf, uOf, vOf, opaqueOf, texelOf, yuvValues, valuesOf, texelAt, exactAt, badPlanarShape, isEmpty, sourceInside, destinationInside, replyTo, toAt, sourceTexel, sourceValues, regionWritten, ifAccepted, convertedBytes, InRegion, ByteOf, Disjoint, NearSource, OthersKept}
+use Rattle.texels.specs.Texels.{decodedOf, exactOf, valueOf, Stands, Holds}
+use Rattle.texels.specs.Bounds.{decoded-stands, near-bytes}
+use Rattle.places.specs.Places.{Places, absent, offsets, bytesFrom, bytesAt}
+use Rattle.places.specs.Inside.{inside-at, texel-fits, lane-ends}
+use Rattle.pixel_convert.specs.Regions.{canConvert, canConvertUpdate, isYuv, lumaOf, uOf, vOf, opaqueOf, texelOf, yuvValues, valuesOf, texelAt, exactAt, badPlanarShape, isEmpty, sourceInside, destinationInside, replyTo, toAt, sourceTexel, sourceValues, regionWritten, ifAccepted, convertedBytes, InRegion, NearSource, OthersKept}
 use Rattle.pixel_convert.specs.Own.{region-other, region-own}
-
--- ---- RGB formats: their texels have bytes, and are no YUV
-pub rgb-some : (f : ℕ) → isConvertibleRgb f ≡ true → 0 < bytesOf f
-unfolding isConvertibleRgb bytesOf partsOf
-rgb-some f h = ltb→lt 0 (bytesOf f) (listed-at (λ g. ltb 0 (bytesOf g)) rgbFormats tt f h)
-
-is-false : (b : Bool) → T (not b) → b ≡ false
-is-false true t = absurd t
-is-false false t = refl
-
-pub rgb-not-planar : (f : ℕ) → isConvertibleRgb f ≡ true → isPlanarYuv f ≡ false
-unfolding isConvertibleRgb isPlanarYuv
-rgb-not-planar f h = is-false (isPlanarYuv f) (listed-at (λ g. not (isPlanarYuv g)) rgbFormats tt f h)
-
-pub rgb-not-packed : (f : ℕ) → isConvertibleRgb f ≡ true → isPackedYuv f ≡ false
-unfolding isConvertibleRgb isPackedYuv
-rgb-not-packed f h = is-false (isPackedYuv f) (listed-at (λ g. not (isPackedYuv g)) rgbFormats tt f h)
 
 -- ---- the destination of a pair that converts is one
 pub convert-rgb : (s d : ℕ) → canConvert s d ≡ true → isConvertibleRgb d ≡ true
@@ -91,13 +72,12 @@ passed s d r n m ne h = go (canConvert s d) (badPlanarShape s r) (isEmpty r) (so
 -- ---- a destination texel's bytes lie within the destination
 pub destination-fits : (d : ℕ) (r : ConvertRegion) (m : ℕ) → isConvertibleRgb d ≡ true → destinationInside m d r ≡ true
     → (z row col : ℕ) → InRegion r z row col → toAt d r z row col + bytesOf d ≤ m
-unfolding destinationInside toAt placesIn
+unfolding destinationInside toAt
 destination-fits d r m rgb h z row col t =
     let y = r .«dst_y» + row in
     let x = r .«dst_x» + col in
     let k = texel-fits m d (r .«dst_pitch») (r .«dst_slice_pitch») z y x (inside-at m d (r .«dst_pitch») (r .«dst_slice_pitch») (r .«dst_x») (r .«dst_y») (r .width) (r .height) (r .depth) h z row col (t .slice) (t .line) (t .column)) in
-    let e = lane-places d (r .«dst_pitch») (r .«dst_slice_pitch») z y x (rgb-not-planar d rgb) (rgb-not-packed d rgb) in
-    leb-true _ m (sym (run-in m (texelStart (r .«dst_pitch») (r .«dst_slice_pitch») (bytesOf d) z y x) (bytesOf d) (rgb-some d rgb)) ∙ sym (ap (placesIn m) e) ∙ k .places)
+    lane-ends m d (r .«dst_pitch») (r .«dst_slice_pitch») z y x (k .places) (rgb-not-planar d rgb) (rgb-not-packed d rgb) (rgb-some d rgb)
 
 clamp-byte : (z : ℤ) → clampTo 255 z < 256
 unfolding clampTo

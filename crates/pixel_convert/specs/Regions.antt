@@ -1,9 +1,9 @@
 -- What converting a region is: the reply, the bytes, and what holds of them.
 -- Assumes nothing.
 use mathlib.Core.Path.{_≡_}
-use mathlib.Core.Bool.{Bool, true, false, not, _&&_, _||_}
+use mathlib.Core.Bool.{Bool, true, not, _&&_, _||_}
 use mathlib.Core.List.{List, [], _∷_}
-use Prim.Native.Nat.{ℕ, _+_, _*_, _/_, _%_, _≤_, _<_}
+use Prim.Native.Nat.{ℕ, _+_, _%_, _≤_, _<_}
 use lib.Dec.{eqb}
 use lib.ListN.{length, getD, take, drop}
 use lib.Seq.{sets}
@@ -14,17 +14,17 @@ use Rattle.formats.specs.Codes.{A8R8G8B8}
 use Rattle.formats.specs.Lanes.{Channel}
 use Rattle.formats.specs.Table.{laneOf, bytesOf}
 use Rattle.formats.specs.Classes.{isConvertibleRgb, isPackedYuv, isPlanarYuv, isWideRgba}
-use Rattle.channels.specs.Fractions.{Fraction, _over_}
+use Rattle.channels.specs.Fractions.{_over_}
 use Rattle.stretch_rect.specs.declared.Rgb.{Rgb}
 use Rattle.stretch_rect.specs.Yuv.{bt601, rgbOf, decimalUnit, redDecimal, greenDecimal, blueDecimal}
 use Rattle.stretch_rect.specs.Samples.{lumaPlace, uPlace, vPlace}
 use Rattle.stretch_rect.specs.Exact.{clampedValue}
-use Rattle.pixel_convert.specs.declared.Texel.{Texel}
+use Rattle.texels.specs.declared.Texel.{Texel}
 use Rattle.pixel_convert.specs.declared.ConvertRegion.{ConvertRegion}
 use Rattle.pixel_convert.specs.declared.ConvertReply.{ConvertReply}
 use Rattle.pixel_convert.specs.declared.ConvertReply.the-variants.{Accepted, Unsupported, PlanarShape, SourceOutside, DestinationOutside}
-use Rattle.pixel_convert.specs.Texels.{decodedOf, encodedBytes, exactOf, Values, valueOf, isColour, Holds}
-use Rattle.pixel_convert.specs.Places.{texelStart, placesAt, bytesAt, insideAll}
+use Rattle.texels.specs.Texels.{decodedOf, encodedBytes, exactOf, Values, valueOf, isColour, Holds}
+use Rattle.places.specs.Places.{texelStart, placesAt, bytesAt, insideAll}
 
 -- ---- which pairs of formats convert
 -- pairs that the Update calls take: RGB and packed YUV into RGB

@@ -1,17 +1,15 @@
 -- What a row of a region asks of the two buffers, and the law that a conversion is a run of rows. Assumes nothing.
-use mathlib.Core.Path.{_≡_, refl, sym, ap, _∙_}
-use mathlib.Core.Bool.{Bool, true, false}
+use mathlib.Core.Path.{_≡_, sym, ap, _∙_}
+use mathlib.Core.Bool.{true}
 use mathlib.Core.List.{List}
 use Prim.Native.Nat.{ℕ, _+_, _*_, _/_, _%_, _≤_, _<_}
-use native.Mathlib.Omega.{arith}
-use lib.ListN.{length}
 use Rattle.words.specs.Iterate.{iterate, iterate-flat, iterate-add}
 use Rattle.formats.specs.Table.{bytesOf}
 use Rattle.formats.specs.Classes.{isConvertibleRgb}
 use Rattle.pixel_convert.specs.declared.ConvertRegion.{ConvertRegion}
-use Rattle.pixel_convert.specs.Places.{isPicture}
-use Rattle.pixel_convert.specs.Inside.{TexelFits}
-use Rattle.pixel_convert.specs.Regions.{toAt, written, rowWritten, sliceWritten, regionWritten}
+use Rattle.places.specs.Places.{isPicture}
+use Rattle.places.specs.Inside.{TexelFits}
+use Rattle.pixel_convert.specs.Regions.{toAt, rowWritten, sliceWritten, regionWritten}
 
 -- the texels of row row of slice z lie within the source and the destination, and the formats are those of a picture and of a destination
 pub record RowFits (n m s d : ℕ) (r : ConvertRegion) (z row : ℕ) : Type 0 where

@@ -1,6 +1,6 @@
 -- DEMAND 3, whole: what is stored lies near its source, packed depths are the nearest codes, and depth pictures come back.
 -- Assumes nothing.
-use mathlib.Core.Path.{_≡_, sym, subst, ap, _∙_}
+use mathlib.Core.Path.{_≡_, subst}
 use mathlib.Core.Bool.{Bool, true, false}
 use mathlib.Core.List.{List}
 use Prim.Native.Nat.{ℕ, _<_}

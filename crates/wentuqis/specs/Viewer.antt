@@ -4,10 +4,8 @@ use mathlib.Core.Path.{_≡_, refl, sym, ap, ap₂, _∙_, subst}
 use mathlib.Core.List.{List}
 use Prim.Native.Nat.{ℕ, _<_}
 use native.Mathlib.Omega.{arith}
-use lib.Dec.{eqb}
 use lib.ListN.{length}
 use borrow.Author.Tests.{ne-eqb}
-use Rattle.words.specs.Tests.{pick}
 use Rattle.pixel_convert.specs.declared.ConvertRegion.{ConvertRegion}
 use Rattle.pixel_convert.specs.declared.ConvertReply.{ConvertReply}
 use Rattle.pixel_convert.specs.declared.ConvertReply.the-variants.{Accepted, Unsupported, PlanarShape, SourceOutside, DestinationOutside}

@@ -19,8 +19,8 @@ use Rattle.channels.specs.Luminance as mean
 use Rattle.stretch_rect.specs.Yuv as yuv
 use Rattle.stretch_rect.specs.Yuv.{bt601, rgbOf}
 use Rattle.pixel_convert.specs.declared.ConvertRegion.{ConvertRegion}
-use Rattle.pixel_convert.specs.Texels as texels
-use Rattle.pixel_convert.specs.Places as places
+use Rattle.texels.specs.Texels as texels
+use Rattle.places.specs.Places as places
 use Rattle.pixel_convert.specs.Regions as regions
 use Rattle.pixel_convert.specs.Regions.{convertReply, convertedBytes, replyNumber}
 use Rattle.convert.specs.Half as binary16

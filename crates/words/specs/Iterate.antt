@@ -1,6 +1,6 @@
 -- A loop's meaning: steps 0 to n - 1 applied in order, and a test of each number below n.
 -- Assumes nothing.
-use mathlib.Core.Path.{_≡_, refl, sym, ap, ap₂, _∙_}
+use mathlib.Core.Path.{_≡_, refl, sym, ap, ap₂, _∙_, subst}
 use mathlib.Core.Bool.{Bool, true, false, _&&_}
 use mathlib.Core.List.{List}
 use mathlib.Core.Logic.{⊎-elim}
@@ -41,6 +41,20 @@ pub iterate-keeps : {A : Type 0} (P : A → Type 0) (f : ℕ → A → A) (n : �
 unfolding iterate
 iterate-keeps P f zero h a p = p
 iterate-keeps P f (suc n) h a p = h n (omega arith) (iterate f n a) (iterate-keeps P f n (λ k l. h k (omega arith)) a p)
+
+-- what one step makes and the others keep, the whole makes
+pub iterate-makes : {A : Type 0} (I P : A → Type 0) (f : ℕ → A → A) (n m : ℕ) → m < n
+    → ((k : ℕ) (b : A) → I b → I (f k b))
+    → ((b : A) → I b → P (f m b))
+    → ((k : ℕ) → k < n → (k ≡ m → ⊥) → (b : A) → P b → P (f k b))
+    → (a : A) → I a → P (iterate f n a)
+unfolding iterate
+iterate-makes I P f zero m lt inv make keep a i = absurd (not-suc-le-zero lt)
+iterate-makes I P f (suc n) m lt inv make keep a i =
+    ⊎-elim
+    (λ less. keep n (omega arith) (λ e. omega arith) (iterate f n a) (iterate-makes I P f n m less inv make (λ k l. keep k (omega arith)) a i))
+    (λ same. subst (λ k. P (f k (iterate f n a))) same (make (iterate f n a) (iterate-keeps I f n (λ k l. inv k) a i)))
+    (lt-or-eq m n lt)
 
 pub iterate-length : {A : Type 0} (f : ℕ → List A → List A) → ((k : ℕ) (l : List A) → length (f k l) ≡ length l) → (n : ℕ) (l : List A) → length (iterate f n l) ≡ length l
 iterate-length f same n l = iterate-keeps (λ m. length m ≡ length l) f n (λ k lt m e. same k m ∙ e) l refl

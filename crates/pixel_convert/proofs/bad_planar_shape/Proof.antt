@@ -1,8 +1,6 @@
 -- `pixel_convert::bad_planar_shape` meets its contract: each test is one of the definition's. Assumes nothing.
-use mathlib.Core.Path.{_≡_, refl, sym, ap, _∙_}
-use mathlib.Core.Bool.{Bool, true, false, not, _&&_, _||_}
-use Prim.Native.Nat.{_%_}
-use lib.Dec.{eqb}
+use mathlib.Core.Path.{_≡_, refl, sym, _∙_}
+use mathlib.Core.Bool.{true}
 use borrow.Author.Tests.{eq-eqb, ne-eqb, not-true, not-false}
 use Rattle.formats.specs.Classes.{isPlanarYuv}
 use Rattle.pixel_convert.specs.Regions.{badPlanarShape}

@@ -1,8 +1,8 @@
 -- `pixel_convert::can_convert_update` meets its contract: each test is one of the definition's. Assumes nothing.
-use mathlib.Core.Path.{_≡_, refl, sym, ap, _∙_}
+use mathlib.Core.Path.{_≡_, refl, sym, _∙_}
 use mathlib.Core.Bool.{Bool, true, false, _&&_, _||_}
 use borrow.Author.Tests.{not-true, not-false}
-use Rattle.formats.specs.Classes.{isConvertibleRgb, isPackedYuv, isPlanarYuv, isWideRgba}
+use Rattle.formats.specs.Classes.{isConvertibleRgb, isPackedYuv}
 use Rattle.pixel_convert.specs.Regions.{canConvertUpdate}
 use borrow.Author.Needs.{needs}
 use Rattle.pixel_convert.proofs.can_convert_update.Statement.{statement}

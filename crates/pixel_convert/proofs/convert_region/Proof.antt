@@ -10,7 +10,6 @@ use lib.ListN.{length, getD}
 use borrow.Author.Tests.{eq-eqb, ne-eqb, not-true, not-false}
 use denote.Ref.{now}
 use Rattle.pixel_convert.specs.declared.ConvertRegion.{ConvertRegion}
-use Rattle.pixel_convert.specs.declared.ConvertReply.the-variants.{Accepted}
 use Rattle.pixel_convert.specs.Regions.{canConvert, badPlanarShape, isEmpty, sourceInside, destinationInside}
 use Rattle.pixel_convert.specs.Answers.{convert-picture, rgb-picture, unsupported, planar-shape, empty, source-outside, destination-outside, accepted, promised, rows-fit}
 use Rattle.pixel_convert.specs.Promises.{convert-rgb}

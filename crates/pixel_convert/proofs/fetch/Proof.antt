@@ -1,8 +1,8 @@
 -- `pixel_convert::fetch` meets its contract: by the kind of the picture; the decoder is lent the part that starts at the texel. Assumes nothing.
-use mathlib.Core.Path.{_≡_, refl, sym, ap, _∙_, subst}
+use mathlib.Core.Path.{_≡_, sym, ap, _∙_, subst}
 use mathlib.Core.Bool.{true, false}
 use mathlib.Core.List.{List}
-use Prim.Native.Nat.{ℕ, _+_, _*_, _-_, _/_, _%_, _≤_, _<_}
+use Prim.Native.Nat.{ℕ, _+_, _*_, _/_, _%_, _≤_}
 use native.Mathlib.Omega.{arith}
 use lib.Dec.{eqb}
 use lib.ListN.{length, take, drop, length-take, length-drop}
@@ -10,14 +10,15 @@ use denote.Ref.{now}
 use Rattle.words.specs.Little.{number}
 use Rattle.words.specs.Slices.{part-read}
 use Rattle.formats.specs.Table.{bytesOf}
-use Rattle.formats.specs.Classes.{isPackedYuv, isPlanarYuv}
-use Rattle.pixel_convert.specs.Texels.{isLaneSource, decodedOf}
+use Rattle.formats.specs.Classes.{isPackedYuv, isPlanarYuv, isLaneSource}
+use Rattle.formats.specs.Listed.{lane-some}
+use Rattle.texels.specs.Texels.{decodedOf}
 use Rattle.planar_yuv.specs.Answers.{Legal}
-use Rattle.pixel_convert.specs.Places.{texelStart, planarPlaces, layoutPlaces, placesIn, bytesAt}
-use Rattle.pixel_convert.specs.Planar.{laid-out}
-use Rattle.pixel_convert.specs.Inside.{planar-places}
+use Rattle.places.specs.Places.{texelStart, planarPlaces, layoutPlaces, placesIn, bytesAt}
+use Rattle.places.specs.Planar.{laid-out}
+use Rattle.places.specs.Inside.{planar-places, lanes-left, lane-ends, packed-ends}
 use Rattle.pixel_convert.specs.Regions.{texelOf}
-use Rattle.pixel_convert.specs.Fetch.{lanes-left, lane-some, lane-ends, packed-ends, lane-texel, packed-texel, planar-texel}
+use Rattle.pixel_convert.specs.Fetch.{lane-texel, packed-texel, planar-texel}
 use borrow.Author.Needs.{needs}
 use Rattle.pixel_convert.proofs.fetch.Statement.{statement}
 use Rattle.pixel_convert.proofs.fetch.Tie as tie

@@ -10,9 +10,10 @@ use Rattle.words.specs.Slices.{part-read}
 use Rattle.formats.specs.Codes.{A16B16G16R16}
 use Rattle.formats.specs.Table.{partsOf, bytesOf}
 use Rattle.formats.specs.Classes.{isPackedYuv, isPlanarYuv}
-use Rattle.pixel_convert.specs.Texels.{decodedOf}
-use Rattle.pixel_convert.specs.Places.{texelStart}
-use Rattle.pixel_convert.specs.Fetch.{lane-ends, lane-texel}
+use Rattle.places.specs.Inside.{lane-ends}
+use Rattle.texels.specs.Texels.{decodedOf}
+use Rattle.places.specs.Places.{texelStart}
+use Rattle.pixel_convert.specs.Fetch.{lane-texel}
 use borrow.Author.Needs.{needs}
 use Rattle.pixel_convert.proofs.fetch_a16b16g16r16.Statement.{statement}
 use Rattle.pixel_convert.proofs.fetch_a16b16g16r16.Tie as tie

@@ -5,8 +5,7 @@ use lib.Dec.{eqb}
 use denote.Ref.{now}
 use Rattle.stretch_rect.specs.Samples.{Readable}
 use Rattle.pixel_convert.specs.Regions.{opaqueOf}
-use Rattle.pixel_convert.specs.Planar.{readable}
-use Rattle.pixel_convert.specs.Fetch.{planar-opaque}
+use Rattle.pixel_convert.specs.Fetch.{readable, planar-opaque}
 use borrow.Author.Needs.{needs}
 use Rattle.pixel_convert.proofs.fetch_planar.Statement.{statement}
 use Rattle.pixel_convert.proofs.fetch_planar.Tie as tie

@@ -7,9 +7,8 @@ use lib.ListN.{length, take, drop, length-take, length-drop}
 use lib.Seq.{sets}
 use denote.Ref.{now}
 use Rattle.words.specs.Slices.{part-back}
-use Rattle.formats.specs.Table.{bytesOf}
-use Rattle.pixel_convert.specs.Texels.{encodedBytes}
-use Rattle.pixel_convert.specs.Places.{texelStart}
+use Rattle.texels.specs.Texels.{encodedBytes}
+use Rattle.places.specs.Places.{texelStart}
 use Rattle.pixel_convert.specs.Own.{encoded-length}
 use borrow.Author.Needs.{needs}
 use Rattle.pixel_convert.proofs.store.Statement.{statement}

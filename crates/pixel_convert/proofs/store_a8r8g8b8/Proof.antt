@@ -1,18 +1,18 @@
 -- `pixel_convert::store_a8r8g8b8` meets its contract: the part that starts at the texel comes back with its bytes set. Assumes nothing.
 use mathlib.Core.Path.{_≡_, refl, ap, _∙_}
 use mathlib.Core.List.{List, _++_}
-use Prim.Native.Nat.{ℕ, _+_, _*_, _-_, _≤_}
+use Prim.Native.Nat.{ℕ, _+_, _*_, _-_}
 use native.Mathlib.Omega.{arith}
 use lib.ListN.{length, take, drop, length-take, length-drop}
 use denote.Ref.{now}
 use Rattle.words.specs.Slices.{part-back}
 use Rattle.formats.specs.Codes.{A8R8G8B8}
 use Rattle.formats.specs.Table.{partsOf, bytesOf}
-use Rattle.pixel_convert.specs.Texels.{encodedBytes}
-use Rattle.pixel_convert.specs.Places.{texelStart}
+use Rattle.texels.specs.Texels.{encodedBytes}
+use Rattle.places.specs.Places.{texelStart}
 use Rattle.pixel_convert.specs.Own.{encoded-length}
 use borrow.Author.Needs.{needs}
-use Rattle.pixel_convert.proofs.Arms.{encode-arm}
+use Rattle.texels.proofs.Arms.{encode-arm}
 use Rattle.pixel_convert.proofs.store_a8r8g8b8.Statement.{statement}
 use Rattle.pixel_convert.proofs.store_a8r8g8b8.Tie as tie
 

@@ -1,7 +1,7 @@
 -- `pixel_convert::texel_row` meets its contract: column by column. Assumes nothing.
 use mathlib.Core.Path.{_≡_, refl, sym, ap, _∙_, subst}
 use mathlib.Core.List.{List}
-use Prim.Native.Nat.{ℕ, _+_, _*_, _-_, _≤_, _<_}
+use Prim.Native.Nat.{ℕ, _+_, _-_, _≤_}
 use native.Mathlib.Nat.{le-antisymm}
 use native.Mathlib.Omega.{arith}
 use lib.ListN.{length}
@@ -9,10 +9,10 @@ use lib.Seq.{sets, length-sets}
 use denote.Ref.{now}
 use Rattle.words.specs.Iterate.{iterate, iterate-zero, iterate-step}
 use Rattle.formats.specs.Table.{bytesOf}
-use Rattle.pixel_convert.specs.declared.Texel.{Texel}
-use Rattle.pixel_convert.specs.Texels.{encodedBytes}
-use Rattle.pixel_convert.specs.Inside.{TexelFits}
-use Rattle.pixel_convert.specs.Places.{texelStart}
+use Rattle.texels.specs.declared.Texel.{Texel}
+use Rattle.texels.specs.Texels.{encodedBytes}
+use Rattle.places.specs.Inside.{TexelFits}
+use Rattle.places.specs.Places.{texelStart}
 use Rattle.pixel_convert.specs.Regions.{toAt, texelAt, sourceTexel, written, rowWritten}
 use borrow.Author.Needs.{needs}
 use Rattle.pixel_convert.proofs.texel_row.Statement.{statement}

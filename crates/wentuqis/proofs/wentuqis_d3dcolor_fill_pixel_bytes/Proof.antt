@@ -1,8 +1,8 @@
 -- `wentuqis::wentuqis_d3dcolor_fill_pixel_bytes` meets its contract: the inner call's pixel, whose length is a texel's. Assumes nothing.
-use mathlib.Core.Path.{_≡_, refl, sym, ap, _∙_, subst}
+use mathlib.Core.Path.{_≡_, sym, subst}
 use mathlib.Core.Bool.{Bool, true, false}
 use mathlib.Core.Logic.{⊎-elim}
-use Prim.Native.Nat.{ℕ, _/_, _<_, _≤_}
+use Prim.Native.Nat.{ℕ, _/_, _<_}
 use native.Mathlib.Nat.{lt-trans}
 use lib.Dec.{ltb, ltb→lt, lit<}
 use Rattle.words.specs.Computed.{below-at}
@@ -11,7 +11,7 @@ use Rattle.channels.specs.Nearest.{split}
 use Rattle.formats.specs.Lanes.{bits}
 use Rattle.formats.specs.Table.{bytesOf, partsOf, not-listed-above}
 use Rattle.formats.specs.Classes.{listed}
-use Rattle.convert.specs.Fill.{Fill, wordOf, fillFormats, filled, refused, fillOf}
+use Rattle.convert.specs.Fill.{wordOf, fillFormats, filled, refused, fillOf}
 use borrow.Author.Needs.{needs}
 use Rattle.wentuqis.proofs.wentuqis_d3dcolor_fill_pixel_bytes.Statement.{statement}
 use Rattle.wentuqis.proofs.wentuqis_d3dcolor_fill_pixel_bytes.Tie as tie

@@ -1,0 +1,62 @@
+-- Laws of lists of codes, and what they say of the classes of formats. Assumes nothing.
+use mathlib.Core.Path.{_≡_, refl, sym, subst}
+use mathlib.Core.Bool.{Bool, true, false, not, _||_, false≢true}
+use mathlib.Core.List.{List, [], _∷_}
+use Prim.Native.Nat.{ℕ, _<_}
+use lib.Dec.{T, eqb, ltb, ltb→lt}
+use lib.Ieee.Bits.{is-false}
+use borrow.Author.Tests.{eqb-true, ne-eqb}
+use Rattle.words.specs.Computed.{both, both-left, both-right}
+use Rattle.formats.specs.Codes.{YV12, NV12}
+use Rattle.formats.specs.Table.{partsOf, bytesOf}
+use Rattle.formats.specs.Classes.{listed, rgbFormats, wideFormats, isConvertibleRgb, isPackedYuv, isPlanarYuv, isWideRgba, isLaneSource}
+
+-- a test at every code of a list holds of a code that is in it
+abbrev everyCode : (ℕ → Bool) → List ℕ → Bool
+everyCode t [] = true
+everyCode t (g ∷ gs) = both (t g) (everyCode t gs)
+
+pub listed-at : (t : ℕ → Bool) (gs : List ℕ) → T (everyCode t gs) → (f : ℕ) → listed f gs ≡ true → T (t f)
+listed-at t [] h f l = absurd (false≢true l)
+listed-at t (g ∷ gs) h f l = go (eqb f g) refl l (listed-at t gs (both-right (t g) (everyCode t gs) h) f)
+  where
+    go : (b : Bool) → eqb f g ≡ b → elim b [ true ↦ true | false ↦ listed f gs ] ≡ true → (listed f gs ≡ true → T (t f)) → T (t f)
+    go true e l r = subst (λ i. T (t i)) (sym (eqb-true f g e)) (both-left (t g) (everyCode t gs) h)
+    go false e l r = r l
+
+-- a code that is none of a list is not listed
+abbrev pub NoCode : ℕ → List ℕ → Type 0
+NoCode f [] = Unit {0}
+NoCode f (g ∷ gs) = (f ≡ g → ⊥) × NoCode f gs
+
+pub not-listed : (f : ℕ) (gs : List ℕ) → NoCode f gs → listed f gs ≡ false
+not-listed f [] h = refl
+not-listed f (g ∷ gs) h = subst (λ (b : Bool). elim b [ true ↦ true | false ↦ listed f gs ] ≡ false) (sym (ne-eqb f g (h .0))) (not-listed f gs (h .1))
+
+-- ---- RGB formats: their texels have bytes, and are no YUV
+pub rgb-some : (f : ℕ) → isConvertibleRgb f ≡ true → 0 < bytesOf f
+unfolding isConvertibleRgb bytesOf partsOf
+rgb-some f h = ltb→lt 0 (bytesOf f) (listed-at (λ g. ltb 0 (bytesOf g)) rgbFormats tt f h)
+
+pub rgb-not-planar : (f : ℕ) → isConvertibleRgb f ≡ true → isPlanarYuv f ≡ false
+unfolding isConvertibleRgb isPlanarYuv
+rgb-not-planar f h = is-false (isPlanarYuv f) (listed-at (λ g. not (isPlanarYuv g)) rgbFormats tt f h)
+
+pub rgb-not-packed : (f : ℕ) → isConvertibleRgb f ≡ true → isPackedYuv f ≡ false
+unfolding isConvertibleRgb isPackedYuv
+rgb-not-packed f h = is-false (isPackedYuv f) (listed-at (λ g. not (isPackedYuv g)) rgbFormats tt f h)
+
+-- planar YUV is no packed YUV
+pub planar-not-packed : (f : ℕ) → isPlanarYuv f ≡ true → isPackedYuv f ≡ false
+unfolding isPlanarYuv isPackedYuv
+planar-not-packed f h = is-false (isPackedYuv f) (listed-at (λ g. not (isPackedYuv g)) (NV12 ∷ YV12 ∷ []) tt f h)
+
+-- a texel with lanes has bytes
+pub lane-some : (f : ℕ) → isLaneSource f ≡ true → 0 < bytesOf f
+unfolding isLaneSource isWideRgba bytesOf partsOf
+lane-some f h = go (isConvertibleRgb f) (isWideRgba f) refl refl h
+  where
+    go : (a b : Bool) → isConvertibleRgb f ≡ a → isWideRgba f ≡ b → (a || b) ≡ true → 0 < bytesOf f
+    go true b e g k = rgb-some f e
+    go false true e g k = ltb→lt 0 (bytesOf f) (listed-at (λ g. ltb 0 (bytesOf g)) wideFormats tt f g)
+    go false false e g k = absurd (false≢true k)
