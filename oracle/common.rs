@@ -8,8 +8,10 @@ pub mod shapes;
 
 use original::pixel_convert::{ConvertRegion, convert_region};
 
-/// The numbers of a region to convert, and of a depth and a stencil plane; any numbers.
+/// A region to convert, of any numbers.
 pub type Region = shapes::ConvertRegion;
+
+/// The layout of a depth and a stencil plane, of any numbers.
 pub type Planes = shapes::PlaneLayout;
 
 /// Marsaglia's xorshift generator of 64 bits, shifts 13, 7 and 17.

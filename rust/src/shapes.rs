@@ -2,7 +2,7 @@
 //! public in the modules of their calls; they stand here because `ffi` needs no more of the crate
 //! than this, and oracle/ compiles the two files as they are.
 
-/// One [`convert_region`](crate::pixel_convert::convert_region) copy: the shared extent, both origins, both layouts.
+/// One [`convert_region`] copy: the shared extent, both origins, both layouts.
 ///
 /// Origins and extent are in texels, pitches in bytes. `depth` is 1 for a 2D level or a cube face,
 /// and the slice count of a volume level. Of a planar source, `src_slice_pitch / src_pitch` is the
@@ -21,6 +21,8 @@
 /// };
 /// assert_eq!((whole.src_x, whole.dst_y, whole.src_slice_pitch), (0, 0, 0));
 /// ```
+///
+/// [`convert_region`]: crate::pixel_convert::convert_region
 #[derive(Clone, Copy, Debug, Default, PartialEq, Eq)]
 pub struct ConvertRegion {
     /// First column of the source.
