@@ -255,8 +255,8 @@ impl Depth {
     }
 
     #[cfg(port)]
-    const fn planes(&self) -> paper::Planes {
-        paper::Planes {
+    const fn planes(&self) -> common::Planes {
+        common::Planes {
             width: self.layout.width,
             height: self.layout.height,
             depth_pitch: self.layout.depth_pitch,

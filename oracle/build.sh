@@ -11,6 +11,7 @@ set -euo pipefail
 here=$(cd "$(dirname "${BASH_SOURCE[0]}")" && pwd)
 script=$here/build.sh
 build=$here/build
+crate=$(dirname "$here")/rust/src
 source=${ORACLE_SRC:-$(dirname "$(dirname "$here")")/shared/docs/src}
 archive=${WENTUQIS_LIB_DIR:-$(dirname "$here")/target/staticlib}/libwentuqis.a
 
@@ -144,7 +145,7 @@ program() {
     fi
 }
 
-# missing: what the archive lacks of what port.rs names; nothing if it is whole.
+# missing: what the archive lacks of what port.rs takes from ffi.rs; nothing if it is whole.
 missing() {
     local name
     if [[ ! -f $archive ]]; then
@@ -156,18 +157,18 @@ missing() {
             echo "lacks $name"
             return
         fi
-    done < <(grep -o '\bwentuqis_\w*' "$here/port.rs" | sort -u)
+    done < <(grep -o '\bwentuqis_\w*' "$crate/ffi.rs" | sort -u)
 }
 
-common=("$here/common.rs" "$build/liboriginal.rlib")
+common=("$here/common.rs" "$crate/shapes.rs" "$build/liboriginal.rlib")
 program worked_table "${common[@]}" --
-program record "${common[@]}" "$here"/{calls,paper,record_calls}.rs --
+program record "${common[@]}" "$here"/{answers,calls,paper,record_calls}.rs --
 
 # A `bench` over another archive, or over none, is not kept.
 common+=("$here/paper.rs")
 port=() missing=$(missing)
 if [[ -z $missing ]]; then
-    common+=("$here/port.rs" "$archive")
+    common+=("$here/port.rs" "$crate/ffi.rs" "$archive")
     port=(--cfg port -L "native=${archive%/*}" -l static=wentuqis)
 fi
 if [[ ! -f $build/linked || $(<"$build/linked") != "${port[*]}" ]]; then
@@ -177,7 +178,7 @@ fi
 program bench "${common[@]}" -- --check-cfg 'cfg(port)' "${port[@]}"
 
 if [[ -z $missing ]]; then
-    common+=("$here"/{calls,checks,findings}.rs)
+    common+=("$here"/{answers,calls,checks,findings}.rs)
     for name in compare fuzz; do
         program "$name" "${common[@]}" "$here"/parts/*.rs -- --check-cfg 'cfg(port)' "${port[@]}" -C overflow-checks=on
     done

@@ -3,8 +3,8 @@
 #![allow(dead_code)]
 
 use crate::{
-    common::{Region, XorShift, random_bytes, random_units},
-    paper::{self, Conversion, FORMATS, Format, Kind, Planes, Transfer},
+    common::{Planes, Region, XorShift, random_bytes, random_units},
+    paper::{self, Conversion, FORMATS, Format, Kind, Transfer},
 };
 
 /// A conversion with its buffers.
@@ -288,8 +288,9 @@ fn depth_bits(random: &mut XorShift) -> u32 {
     }
 }
 
-/// Magnitudes of binary32 numbers, as bits, at which something changes; each has two signs.
-pub const MAGNITUDES: [u32; 28] = [
+/// Magnitudes of binary32 numbers, as bits: the classes of IEEE 754 and their ends, and some that
+/// every rounding meets.
+pub const CLASSES: [u32; 20] = [
     0x0000_0000, // zero
     0x0000_0001, // the least subnormal
     0x0000_0002,
@@ -297,21 +298,13 @@ pub const MAGNITUDES: [u32; 28] = [
     0x007f_ffff, // the greatest subnormal
     0x0080_0000, // the least normal
     0x0080_0001,
-    0x32ff_ffff,
     0x3300_0000, // 2^-25
-    0x3300_0001,
-    0x337f_ffff,
     0x3380_0000, // 2^-24
-    0x3380_0001,
     0x3b00_0000, // 2^-9
-    0x3eff_ffff,
     0x3f00_0000, // 0.5
-    0x3f00_0001,
     0x3f7f_ffff, // the greatest below 1
     0x3f80_0000, // 1
     0x3f80_0001, // the least above 1
-    0x477f_efff, // the greatest below 65520
-    0x477f_f000, // 65520
     0x7f7f_ffff, // the greatest finite number
     0x7f80_0000, // infinity
     0x7f80_0001, // signalling NaN with the least payload
@@ -319,6 +312,40 @@ pub const MAGNITUDES: [u32; 28] = [
     0x7fc0_0000, // quiet NaN with no payload
     0x7fff_ffff, // quiet NaN with the greatest payload
 ];
+
+/// Magnitudes at which something changes; each has two signs.
+pub const MAGNITUDES: [u32; 28] = merged(
+    &CLASSES,
+    &[
+        0x32ff_ffff,
+        0x3300_0001,
+        0x337f_ffff,
+        0x3380_0001,
+        0x3eff_ffff,
+        0x3f00_0001,
+        0x477f_efff, // the greatest below 65520
+        0x477f_f000, // 65520
+    ],
+);
+
+/// Two ascending lists as one.
+pub const fn merged<const N: usize>(a: &[u32], b: &[u32]) -> [u32; N] {
+    let mut all = [0; N];
+    let (mut i, mut j) = (0, 0);
+    while i < a.len() || j < b.len() {
+        let from_a = j == b.len() || i < a.len() && a[i] < b[j];
+        all[i + j] = if from_a { a[i] } else { b[j] };
+        if from_a { i += 1 } else { j += 1 }
+    }
+    assert!(i + j == N, "a list of another length");
+    all
+}
+
+/// Each magnitude with either sign.
+pub fn both_signs(magnitudes: &[u32]) -> Vec<u32> {
+    let signs = |it: &u32| [*it, it | 0x8000_0000];
+    magnitudes.iter().flat_map(signs).collect()
+}
 
 /// Numbers of 32 bits at which sums, layouts or textures reach a limit.
 pub const EDGES32: [u32; 16] = [

@@ -19,18 +19,13 @@ use std::{
     time::{Duration, Instant},
 };
 
-use original::{
-    convert, depth_texture,
-    pixel_convert::{self, ConvertRegion},
-    planar_yuv::{self, PlanarYuvLayout},
-    stretch_rect,
-};
+use original::{convert, pixel_convert, stretch_rect};
 
 use crate::{
+    answers,
     calls::{ConvertCall, DepthCall},
-    common::Region,
     findings::{Findings, Lent, bytes_text, format_text},
-    paper::{self, Layout, Planes},
+    paper::{self, Layout},
     port,
 };
 
@@ -178,7 +173,7 @@ impl Checks {
 
     pub fn convert_region(&mut self, call: &ConvertCall) {
         let paper = call.conversion().reply();
-        let many = effort(&call.region) > MANY;
+        let many = answers::effort(&call.region) > MANY;
         if many && paper == 0 && !paper::is_empty(&call.region) {
             return;
         }
@@ -203,7 +198,9 @@ impl Checks {
         if reply != 0 || paper::is_empty(&call.region) {
             findings.kept("dst", &dst, &call.dst);
         }
-        let original = original_convert(call, paper);
+        let stops = || !many || call.conversion().stops_among(LOOKED_AT);
+        let asked = answers::can_convert(call, paper, stops);
+        let original = ask(asked, || answers::convert(call));
         if let Some((accepted, bytes)) = self.answer(original, &mut findings) {
             findings.accepted(reply == 0, accepted);
             if reply == 0 && accepted {
@@ -234,7 +231,7 @@ impl Checks {
             findings.kept("depth", &depth, &call.depth);
             findings.kept("stencil", &stencil, &call.stencil);
         }
-        let original = ask(paper != 10, || original_unpack(call));
+        let original = ask(paper != 10, || answers::unpack(call));
         if let Some((accepted, planes)) = self.answer(original, &mut findings) {
             findings.accepted(reply == 0, accepted);
             if reply == 0 && accepted {
@@ -269,7 +266,7 @@ impl Checks {
         if reply != 0 {
             findings.kept("packed", &packed, &call.packed);
         }
-        let original = ask(paper != 10, || original_pack(call));
+        let original = ask(paper != 10, || answers::pack(call));
         if let Some((accepted, bytes)) = self.answer(original, &mut findings) {
             findings.accepted(reply == 0, accepted);
             if reply == 0 && accepted {
@@ -324,8 +321,7 @@ impl Checks {
 
     pub fn plane_layout(&mut self, width: u32, height: u32, alignment: u32) {
         let paper = paper::plane_layout(width, height, alignment);
-        let original = depth_texture::PlaneLayout::new(width, height, alignment)
-            .map(|it| [it.width, it.height, it.depth_pitch, it.stencil_pitch].map(|it| it as u64));
+        let original = answers::plane_layout(width, height, alignment);
         let call = |layout: &mut _| port::plane_layout(width, height, alignment, layout);
         let text = format_args!("width {width}, height {height}, alignment {alignment}");
         self.layout("plane_layout", text, call, paper, original);
@@ -333,8 +329,7 @@ impl Checks {
 
     pub fn planar_layout(&mut self, format: u32, width: u32, height: u32) {
         let paper = paper::planar_layout(format, width, height);
-        let original = planar_yuv::planar_yuv_layout(format, width, height);
-        let original = original.map(|it| planar_numbers(&it));
+        let original = answers::planar_layout(format, width, height);
         let call = |layout: &mut _| port::planar_yuv_layout(format, width, height, layout);
         let text = format_args!("{}, width {width}, height {height}", format_text(format));
         self.layout("planar_yuv_layout", text, call, paper, original);
@@ -342,8 +337,7 @@ impl Checks {
 
     pub fn planar_layout_from_pitch(&mut self, format: u32, pitch: usize, luma_rows: usize) {
         let paper = paper::planar_layout_from_pitch(format, pitch, luma_rows);
-        let original = planar_yuv::planar_yuv_layout_from_pitch(format, pitch, luma_rows);
-        let original = original.map(|it| planar_numbers(&it));
+        let original = answers::planar_layout_from_pitch(format, pitch, luma_rows);
         let call =
             |layout: &mut _| port::planar_yuv_layout_from_pitch(format, pitch, luma_rows, layout);
         let text = format_args!(
@@ -472,82 +466,6 @@ impl Checks {
         self.first.extend(other.first);
         self.first.truncate(KEPT);
     }
-}
-
-/// The turns of the original's loops, an empty region's too.
-fn effort(region: &Region) -> u128 {
-    (region.depth as u128)
-        .saturating_mul(region.height.max(1).into())
-        .saturating_mul(region.width.max(1).into())
-}
-
-/// Whether it accepts, and its destination.
-fn original_convert(call: &ConvertCall, paper: u32) -> Original<(bool, Vec<u8>)> {
-    let conversion = call.conversion();
-    let ends = effort(&call.region) <= MANY;
-    let asked = match paper {
-        1 | 2 => true,
-        _ if paper::is_empty(&call.region) => ends,
-        _ => conversion.sums_fit() && (ends || conversion.stops_among(LOOKED_AT)),
-    };
-    ask(asked, || {
-        let mut dst = call.dst.clone();
-        let accepted = pixel_convert::convert_region(
-            &mut dst,
-            call.dst_format,
-            &call.src,
-            call.src_format,
-            &ConvertRegion::from(&call.region),
-        );
-        (accepted, dst)
-    })
-}
-
-fn original_layout(planes: &Planes) -> depth_texture::PlaneLayout {
-    depth_texture::PlaneLayout {
-        width: planes.width,
-        height: planes.height,
-        depth_pitch: planes.depth_pitch,
-        stencil_pitch: planes.stencil_pitch,
-    }
-}
-
-/// Whether it accepts, and its depth and stencil planes.
-fn original_unpack(call: &DepthCall) -> (bool, (Vec<u8>, Vec<u8>)) {
-    let (mut depth, mut stencil) = (call.depth.clone(), call.stencil.clone());
-    let accepted = depth_texture::PackedDepth::from_d3d(call.format).is_some_and(|format| {
-        original_layout(&call.planes).unpack(
-            &format,
-            &call.packed,
-            call.packed_pitch,
-            &mut depth,
-            &mut stencil,
-        )
-    });
-    (accepted, (depth, stencil))
-}
-
-/// Whether it accepts, and its packed rows.
-fn original_pack(call: &DepthCall) -> (bool, Vec<u8>) {
-    let mut packed = call.packed.clone();
-    let accepted = depth_texture::PackedDepth::from_d3d(call.format).is_some_and(|format| {
-        original_layout(&call.planes).pack(
-            &format,
-            &call.depth,
-            &call.stencil,
-            &mut packed,
-            call.packed_pitch,
-        )
-    });
-    (accepted, packed)
-}
-
-/// Pitch, luma rows, chroma rows, total bytes. Chroma starts where the luma rows end.
-fn planar_numbers(layout: &PlanarYuvLayout) -> [u64; 4] {
-    let pitch = layout.pitch() as usize;
-    let luma_rows = layout.nv12_uv_offset(0, 0) / pitch;
-    let chroma_rows = layout.storage_rows() as usize - luma_rows;
-    [pitch, luma_rows, chroma_rows, layout.total_bytes()].map(|it| it as u64)
 }
 
 /// Does the works 0 up to `count` on as many threads as there are cores.

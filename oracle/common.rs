@@ -1,8 +1,18 @@
-//! Shared by the programs of this folder, each of which uses a part: the random numbers, regions,
-//! conversions of one texel by the original, frames of random texels.
+//! Shared by the programs of this folder, each of which uses a part: the random numbers, regions
+//! and planes (plain numbers, by the declarations of the crate in rust/), conversions of one texel
+//! by the original, frames of random texels.
 #![allow(dead_code)]
 
+#[path = "../rust/src/shapes.rs"]
+pub mod shapes;
+
 use original::pixel_convert::{ConvertRegion, convert_region};
+
+/// A region to convert, of any numbers.
+pub type Region = shapes::ConvertRegion;
+
+/// The layout of a depth and a stencil plane, of any numbers.
+pub type Planes = shapes::PlaneLayout;
 
 /// Marsaglia's xorshift generator of 64 bits, shifts 13, 7 and 17.
 pub struct XorShift(u64);
@@ -55,22 +65,6 @@ impl XorShift {
     pub fn pick<T: Copy>(&mut self, from: &[T]) -> T {
         from[self.below(from.len() as u64) as usize]
     }
-}
-
-/// A region to convert, with the original's fields.
-#[derive(Clone, Copy, Debug)]
-pub struct Region {
-    pub src_x: u32,
-    pub src_y: u32,
-    pub dst_x: u32,
-    pub dst_y: u32,
-    pub width: u32,
-    pub height: u32,
-    pub src_pitch: usize,
-    pub dst_pitch: usize,
-    pub src_slice_pitch: usize,
-    pub dst_slice_pitch: usize,
-    pub depth: usize,
 }
 
 impl From<&Region> for ConvertRegion {

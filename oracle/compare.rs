@@ -4,6 +4,7 @@
 //! own random numbers, so that a seed gives the same cases whichever parts run. The exit status is
 //! 1 if anything differs.
 
+mod answers;
 mod calls;
 mod checks;
 mod common;

@@ -5,6 +5,7 @@
 //! access past it is seen. Without SEED the clock gives one. The exit status is 1 if anything
 //! differs.
 
+mod answers;
 mod calls;
 mod checks;
 mod common;

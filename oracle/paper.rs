@@ -1,11 +1,12 @@
 //! The reply to every call by document 01: 0 where it accepts, else the number of the refusal.
 //! Read from the document alone, to judge the port by: neither the original's code nor the port's
-//! stands behind it, but for the lists of formats, which the document leaves to the original.
+//! stands behind it, but for the lists of formats, which the document leaves to the original, and
+//! the structs in which the numbers of a region and of two planes stand.
 //! Numbers have 128 bits, so that products of 64-bit numbers are true ones; a sum that would not
 //! fit stays at the greatest number, which lies past every buffer.
 #![allow(dead_code)]
 
-use crate::common::Region;
+use crate::common::{Planes, Region};
 
 /// What a texel of a format needs of the source.
 #[derive(Clone, Copy, Debug, PartialEq, Eq)]
@@ -337,15 +338,6 @@ pub fn plane_layout(width: u32, height: u32, alignment: u32) -> Layout {
 
 const fn plane_fits(pitch: u128, height: u128) -> bool {
     pitch * height <= u64::MAX as u128
-}
-
-/// The fields of a plane layout, which may hold any numbers.
-#[derive(Clone, Copy, Debug)]
-pub struct Planes {
-    pub width: usize,
-    pub height: usize,
-    pub depth_pitch: usize,
-    pub stencil_pitch: usize,
 }
 
 /// A depth transfer, either way, as far as its reply depends on it.

@@ -5,6 +5,7 @@
 //! comes from a public function of the original; where several lanes or formats show the same
 //! arithmetic, they must agree.
 
+mod answers;
 mod calls;
 mod common;
 mod paper;
@@ -12,6 +13,7 @@ mod record_calls;
 
 use std::{path::Path, process::ExitCode};
 
+use calls::{CLASSES, both_signs, merged, tie};
 use common::{XorShift, convert_texel};
 use mtld3d_types::*;
 use original::{convert::d3dcolor_fill_pixel_bytes, format::linear_row_pitch};
@@ -302,48 +304,27 @@ fn binary32s(random: &mut XorShift) -> Vec<u32> {
         patterns.extend(exact.to_bits().saturating_sub(1)..=exact.to_bits() + 1);
     }
     for byte in 0..255 {
-        let tie = ((f64::from(byte) + 0.5) / 255.0) as f32;
-        patterns.extend(tie.to_bits() - 3..=tie.to_bits() + 3);
+        let tie = tie(byte, 255);
+        patterns.extend(tie - 3..=tie + 3);
     }
-    patterns.extend(
-        SPECIAL
-            .iter()
-            .flat_map(|&magnitude| [magnitude, magnitude | 0x8000_0000]),
-    );
+    patterns.extend(both_signs(&SPECIAL));
     patterns.extend((0..200).map(|_| random.next_u32()));
     patterns.extend((0..200).map(|_| random.next_unit().to_bits()));
     patterns
 }
 
 /// Magnitudes, each recorded with both signs.
-const SPECIAL: [u32; 26] = [
-    0x0000_0000, // zero
-    0x0000_0001, // the least subnormal
-    0x0000_0002,
-    0x0040_0000,
-    0x007f_ffff, // the greatest subnormal
-    0x0080_0000, // the least normal
-    0x0080_0001,
-    0x3300_0000, // 2^-25
-    0x3380_0000, // 2^-24
-    0x3b00_0000, // 2^-9, just below half a step
-    0x3e80_0000, // 0.25
-    0x3f00_0000, // 0.5
-    0x3f40_0000, // 0.75
-    0x3f7f_ffff, // the greatest below 1
-    0x3f80_0000, // 1
-    0x3f80_0001, // the least above 1
-    0x4000_0000, // 2
-    0x437f_0000, // 255
-    0x4380_0000, // 256
-    0x4f80_0000, // 2^32
-    0x7f7f_ffff, // the greatest finite number
-    0x7f80_0000, // infinity
-    0x7f80_0001, // signalling NaN with the least payload
-    0x7fbf_ffff, // signalling NaN with the greatest payload
-    0x7fc0_0000, // quiet NaN with no payload
-    0x7fff_ffff, // quiet NaN with the greatest payload
-];
+const SPECIAL: [u32; 26] = merged(
+    &CLASSES,
+    &[
+        0x3e80_0000, // 0.25
+        0x3f40_0000, // 0.75
+        0x4000_0000, // 2
+        0x437f_0000, // 255
+        0x4380_0000, // 256
+        0x4f80_0000, // 2^32
+    ],
+);
 
 /// Small widths, those around powers of two, and the greatest.
 fn widths() -> Vec<u32> {

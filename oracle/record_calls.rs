@@ -9,17 +9,13 @@
 //! (docs/DIFFERENCES.md). Left out: what the original would wrap or panic at, what it would accept
 //! of a plane layout that has refusal 10, and what does not fit in an area.
 
-use original::{
-    convert, depth_texture,
-    pixel_convert::{self, ConvertRegion},
-    planar_yuv::{self, PlanarYuvLayout},
-    stretch_rect,
-};
+use original::{convert, pixel_convert, stretch_rect};
 
 use crate::{
+    answers,
     calls::{
-        ConvertCall, DEPTHS, DepthCall, EDGES32, MAGNITUDES, any_code, any32, any64, listed_codes,
-        near_tie, pairs,
+        ConvertCall, DEPTHS, DepthCall, EDGES32, MAGNITUDES, any_code, any32, any64, both_signs,
+        listed_codes, near_tie, pairs,
     },
     common::{Region, XorShift, random_bytes, whole_frame},
     paper::{self, FORMATS, Format, Kind, NV12, YV12, named},
@@ -122,27 +118,13 @@ impl Recorder {
 
     /// Records a conversion if the original can be asked and the buffers fit.
     fn convert(&mut self, call: &ConvertCall) -> bool {
-        let region = &call.region;
-        let conversion = call.conversion();
-        let texels = (region.depth as u128)
-            .saturating_mul(region.height.max(1).into())
-            .saturating_mul(region.width.max(1).into());
-        let asked = match conversion.reply() {
-            1 | 2 => true,
-            _ if paper::is_empty(region) => texels <= MANY,
-            _ => conversion.sums_fit() && texels <= MANY,
-        };
+        let reply = call.conversion().reply();
+        let asked = answers::can_convert(call, reply, || answers::effort(&call.region) <= MANY);
         if !asked || call.src.len() > AREA || call.dst.len() > AREA {
             return false;
         }
-        let (before, mut dst) = (area(&call.dst, 0xa5), call.dst.clone());
-        let accepted = pixel_convert::convert_region(
-            &mut dst,
-            call.dst_format,
-            &call.src,
-            call.src_format,
-            &ConvertRegion::from(region),
-        );
+        let before = area(&call.dst, 0xa5);
+        let (accepted, dst) = answers::convert(call);
         let after = if accepted { area(&dst, 0xa5) } else { before };
         let parameters = convert_parameters(call);
         let areas: [&[u8]; 5] = [&area(&call.src, 0x3c), &before, &[], &after, &[]];
@@ -162,16 +144,7 @@ impl Recorder {
         if !Self::asked(call) {
             return;
         }
-        let (mut depth, mut stencil) = (call.depth.clone(), call.stencil.clone());
-        let accepted = packed_depth(call).is_some_and(|format| {
-            original_layout(call).unpack(
-                &format,
-                &call.packed,
-                call.packed_pitch,
-                &mut depth,
-                &mut stencil,
-            )
-        });
+        let (accepted, (mut depth, mut stencil)) = answers::unpack(call);
         if !accepted {
             (depth, stencil) = (call.depth.clone(), call.stencil.clone());
         }
@@ -185,16 +158,7 @@ impl Recorder {
         if !Self::asked(call) {
             return;
         }
-        let mut packed = call.packed.clone();
-        let accepted = packed_depth(call).is_some_and(|format| {
-            original_layout(call).pack(
-                &format,
-                &call.depth,
-                &call.stencil,
-                &mut packed,
-                call.packed_pitch,
-            )
-        });
+        let (accepted, mut packed) = answers::pack(call);
         if !accepted {
             packed.clone_from(&call.packed);
         }
@@ -230,43 +194,19 @@ fn short_packed(call: &DepthCall) -> bool {
     height > 0 && call.planes.width < AREA && (call.packed.len() as u128) < end(height - 1)
 }
 
-fn packed_depth(call: &DepthCall) -> Option<depth_texture::PackedDepth> {
-    depth_texture::PackedDepth::from_d3d(call.format)
-}
-
-const fn original_layout(call: &DepthCall) -> depth_texture::PlaneLayout {
-    depth_texture::PlaneLayout {
-        width: call.planes.width,
-        height: call.planes.height,
-        depth_pitch: call.planes.depth_pitch,
-        stencil_pitch: call.planes.stencil_pitch,
-    }
-}
-
 /// Lengths of source and destination, then the parameters of the call.
-fn convert_parameters(call: &ConvertCall) -> [u64; PARAMETERS] {
+fn convert_parameters(call: &ConvertCall) -> Vec<u64> {
     let region = &call.region;
-    let small = [
-        region.src_x,
-        region.src_y,
-        region.dst_x,
-        region.dst_y,
-        region.width,
-        region.height,
-    ];
-    let mut parameters = [0; PARAMETERS];
-    parameters[..2].copy_from_slice(&[call.src.len(), call.dst.len()].map(|it| it as u64));
-    parameters[2..4].copy_from_slice(&[call.dst_format, call.src_format].map(u64::from));
-    parameters[4..10].copy_from_slice(&small.map(u64::from));
-    let large = [
-        region.src_pitch,
-        region.dst_pitch,
-        region.src_slice_pitch,
-        region.dst_slice_pitch,
-        region.depth,
-    ];
-    parameters[10..].copy_from_slice(&large.map(|it| it as u64));
-    parameters
+    let lengths = [call.src.len(), call.dst.len()];
+    let formats = [call.dst_format, call.src_format];
+    let origins = [region.src_x, region.src_y, region.dst_x, region.dst_y];
+    let extent = [region.width, region.height];
+    let pitches = [region.src_pitch, region.dst_pitch];
+    let slices = [region.src_slice_pitch, region.dst_slice_pitch, region.depth];
+    let narrow = formats.into_iter().chain(origins).chain(extent);
+    let all = lengths.into_iter().chain(narrow.map(|it| it as usize));
+    let all = all.chain(pitches).chain(slices);
+    all.map(|it| it as u64).collect()
 }
 
 /// Lengths of packed pixels, depth and stencil, then the parameters of the call.
@@ -321,14 +261,6 @@ fn triples(to: &mut Recorder) {
     }
 }
 
-/// Pitch, luma rows, chroma rows, total bytes. Chroma starts where the luma rows end.
-fn planar_numbers(layout: &PlanarYuvLayout) -> [u64; 4] {
-    let pitch = layout.pitch() as usize;
-    let luma_rows = layout.nv12_uv_offset(0, 0) / pitch;
-    let chroma_rows = layout.storage_rows() as usize - luma_rows;
-    [pitch, luma_rows, chroma_rows, layout.total_bytes()].map(|it| it as u64)
-}
-
 fn layout(to: &mut Recorder, parameters: [u64; 3], numbers: Option<[u64; 4]>) {
     let bytes = numbers.map(|it| it.map(u64::to_le_bytes).concat());
     to.value(parameters, bytes.as_deref());
@@ -341,8 +273,7 @@ const SIZES: [u32; 14] = [
 
 fn planar_layouts(to: &mut Recorder) {
     let record = |to: &mut Recorder, format: u32, width: u32, height: u32| {
-        let numbers = planar_yuv::planar_yuv_layout(format, width, height);
-        let numbers = numbers.map(|it| planar_numbers(&it));
+        let numbers = answers::planar_layout(format, width, height);
         layout(to, [format, width, height].map(u64::from), numbers);
     };
     for format in [YV12, NV12] {
@@ -361,8 +292,7 @@ fn planar_layouts(to: &mut Recorder) {
 
 fn planar_layouts_from_pitch(to: &mut Recorder) {
     let record = |to: &mut Recorder, format: u32, pitch: usize, rows: usize| {
-        let numbers = planar_yuv::planar_yuv_layout_from_pitch(format, pitch, rows);
-        let numbers = numbers.map(|it| planar_numbers(&it));
+        let numbers = answers::planar_layout_from_pitch(format, pitch, rows);
         let parameters = [u64::from(format), pitch as u64, rows as u64];
         layout(to, parameters, numbers);
     };
@@ -382,8 +312,7 @@ fn planar_layouts_from_pitch(to: &mut Recorder) {
 
 fn plane_layouts(to: &mut Recorder) {
     let record = |to: &mut Recorder, width: u32, height: u32, alignment: u32| {
-        let numbers = depth_texture::PlaneLayout::new(width, height, alignment)
-            .map(|it| [it.width, it.height, it.depth_pitch, it.stencil_pitch].map(|it| it as u64));
+        let numbers = answers::plane_layout(width, height, alignment);
         layout(to, [width, height, alignment].map(u64::from), numbers);
     };
     for width in EDGES32 {
@@ -419,7 +348,7 @@ fn fills(to: &mut Recorder) {
 }
 
 fn halves(to: &mut Recorder) {
-    let mut patterns = MAGNITUDES.map(|it| [it, it | 0x8000_0000]).concat();
+    let mut patterns = both_signs(&MAGNITUDES);
     // Around every power of two from 2^-26 to 2^17, and half a step above it.
     for exponent in 101..=144_u32 {
         let power = exponent << 23;

@@ -3,8 +3,8 @@
 
 use crate::{
     calls::{
-        ConvertCall, EDGES64, MAGNITUDES, any_code, any32, any64, listed_codes, pairs, row_bytes,
-        texel_bytes, tie,
+        ConvertCall, EDGES64, MAGNITUDES, any_code, any32, any64, both_signs, listed_codes, pairs,
+        row_bytes, texel_bytes, tie,
     },
     checks::{Checks, spread},
     common::{Region, XorShift, random_bytes, whole_frame},
@@ -397,7 +397,7 @@ fn binary32s(random: &mut XorShift) -> Vec<u32> {
     let exact = (1..=255_u8).map(|byte| (f64::from(byte) / 255.0) as f32);
     let centres = ties.chain(exact.map(f32::to_bits));
     let near = centres.flat_map(|bits| bits - 8..=bits + 8);
-    let special = MAGNITUDES.map(|it| [it, it | 0x8000_0000]).concat();
+    let special = both_signs(&MAGNITUDES);
     let units: Vec<u32> = (0..5000).map(|_| random.next_unit().to_bits()).collect();
     let others = (0..5000).map(|_| random.next_u32());
     near.chain(special).chain(units).chain(others).collect()

@@ -1,10 +1,12 @@
 //! Plane layouts, unpacking and packing of depth, and what the two restore.
 
 use crate::{
-    calls::{DEPTHS, DepthCall, EDGES32, EDGES64, MAGNITUDES, any_code, any32, any64, tie},
+    calls::{
+        DEPTHS, DepthCall, EDGES32, EDGES64, MAGNITUDES, any_code, any32, any64, both_signs, tie,
+    },
     checks::{Checks, spread},
-    common::{XorShift, random_bytes},
-    paper::{self, D16, D24S8, D24X8, Planes},
+    common::{Planes, XorShift, random_bytes},
+    paper::{self, D16, D24S8, D24X8},
 };
 
 pub fn run(checks: &mut Checks, random: &mut XorShift, all: bool) {
@@ -229,7 +231,7 @@ fn pack_depths(checks: &mut Checks, format: u32, width: usize, depths: Vec<u8>) 
 
 /// NaNs, infinities, zeros, subnormals and others, of both signs.
 fn special_depths(checks: &mut Checks) {
-    let depths = MAGNITUDES.map(|it| [it, it | 0x8000_0000]).concat();
+    let depths = both_signs(&MAGNITUDES);
     let bytes: Vec<u8> = depths.into_iter().flat_map(u32::to_le_bytes).collect();
     for (format, _) in DEPTHS {
         pack_depths(checks, format, 1, bytes.clone());

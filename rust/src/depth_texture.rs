@@ -10,6 +10,8 @@ use crate::ffi;
 use crate::format::{D3DFMT_D16, D3DFMT_D24S8, D3DFMT_D24X8, Named};
 use crate::refusal::{Call, Refusal, Refused, accepted};
 
+pub use crate::shapes::PlaneLayout;
+
 /// A packed depth format.
 ///
 /// ```
@@ -94,30 +96,6 @@ impl PackedDepth {
     pub const fn has_stencil(&self) -> bool {
         matches!(self, Self::D24S8)
     }
-}
-
-/// Rows of a depth plane and of a stencil plane, in bytes.
-///
-/// Pixel `(x, y)` has its depth at `y * depth_pitch + 4 * x` of the one plane and its stencil at
-/// `y * stencil_pitch + x` of the other. A layout need not come from [`new`](Self::new): unpacking
-/// and packing check it.
-///
-/// ```
-/// use wentuqis::depth_texture::PlaneLayout;
-///
-/// let layout = PlaneLayout::new(5, 3, 16).unwrap();
-/// assert_eq!((layout.depth_pitch, layout.stencil_pitch), (32, 16));
-/// ```
-#[derive(Clone, Copy, Debug, PartialEq, Eq)]
-pub struct PlaneLayout {
-    /// Pixels of a row.
-    pub width: usize,
-    /// Rows.
-    pub height: usize,
-    /// Bytes from a row of the depth plane to the next.
-    pub depth_pitch: usize,
-    /// Bytes from a row of the stencil plane to the next.
-    pub stencil_pitch: usize,
 }
 
 impl PlaneLayout {

@@ -3,9 +3,10 @@
 //! A slice crosses as pointer and length, an array by pointer. What the library asks of its callers
 //! is what a Rust reference gives: no null pointer (an empty slice has a dangling one), initialised
 //! bytes, and no other access to what a `&mut` lends. Replies are the library's own numbers.
+//! Nothing is checked on the way: the library takes any number. oracle/port.rs compiles this file
+//! too.
 
-use crate::depth_texture::PlaneLayout;
-use crate::pixel_convert::ConvertRegion;
+use super::shapes::{ConvertRegion, PlaneLayout};
 
 // SAFETY: as include/wentuqis.h declares them; a `safe` call takes only numbers and whole arrays.
 unsafe extern "C" {

@@ -44,6 +44,7 @@ pub mod format;
 pub mod pixel_convert;
 pub mod planar_yuv;
 mod refusal;
+mod shapes;
 pub mod stretch_rect;
 
 pub use refusal::{Refusal, Refused};

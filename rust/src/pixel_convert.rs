@@ -14,50 +14,7 @@ use crate::format::{
 use crate::planar_yuv::{PlanarYuvLayout, missing_layout, planar_yuv_layout_from_pitch};
 use crate::refusal::{Call, Refusal, Refused, accepted};
 
-/// One [`convert_region`] copy: the shared extent, both origins, both layouts.
-///
-/// Origins and extent are in texels, pitches in bytes. `depth` is 1 for a 2D level or a cube face,
-/// and the slice count of a volume level. Of a planar source, `src_slice_pitch / src_pitch` is the
-/// number of luma rows.
-///
-/// ```
-/// use wentuqis::pixel_convert::ConvertRegion;
-///
-/// let whole = ConvertRegion {
-///     width: 640,
-///     height: 480,
-///     src_pitch: 1280,
-///     dst_pitch: 2560,
-///     depth: 1,
-///     ..ConvertRegion::default()
-/// };
-/// assert_eq!((whole.src_x, whole.dst_y, whole.src_slice_pitch), (0, 0, 0));
-/// ```
-#[derive(Clone, Copy, Debug, Default, PartialEq, Eq)]
-pub struct ConvertRegion {
-    /// First column of the source.
-    pub src_x: u32,
-    /// First row of the source.
-    pub src_y: u32,
-    /// First column of the destination.
-    pub dst_x: u32,
-    /// First row of the destination.
-    pub dst_y: u32,
-    /// Columns to convert.
-    pub width: u32,
-    /// Rows to convert.
-    pub height: u32,
-    /// Bytes from a source row to the next.
-    pub src_pitch: usize,
-    /// Bytes from a destination row to the next.
-    pub dst_pitch: usize,
-    /// Bytes from a source slice to the next.
-    pub src_slice_pitch: usize,
-    /// Bytes from a destination slice to the next.
-    pub dst_slice_pitch: usize,
-    /// Slices to convert.
-    pub depth: usize,
-}
+pub use crate::shapes::ConvertRegion;
 
 /// Whether [`convert_region`] converts this source format into this destination format.
 ///

@@ -106,26 +106,19 @@ fn layouts_refused() {
 fn buffers_that_just_fit() {
     let layout = PlaneLayout::new(5, 3, 8).unwrap();
     for (format, lent) in fitting(&layout) {
-        let code = format.code();
         let (mut depth, mut stencil) = (bytes(lent.depth), bytes(lent.stencil));
         let packed = bytes(lent.packed);
         assert!(layout.unpack(&format, &packed, lent.pitch, &mut depth, &mut stencil));
         let mut again = bytes(lent.packed);
         assert!(layout.pack(&format, &depth, &stencil, &mut again, lent.pitch));
-        refuses(
-            ShortPacked,
-            code,
-            &layout,
-            but(lent, |l| l.packed = lent.packed - 1),
-        );
-        refuses(ShortPacked, code, &layout, but(lent, |l| l.packed = 0));
-        refuses(
-            ShortDepth,
-            code,
-            &layout,
-            but(lent, |l| l.depth = lent.depth - 1),
-        );
-        refuses(ShortDepth, code, &layout, but(lent, |l| l.depth = 0));
+        for (refusal, short) in [
+            (ShortPacked, but(lent, |l| l.packed -= 1)),
+            (ShortPacked, but(lent, |l| l.packed = 0)),
+            (ShortDepth, but(lent, |l| l.depth -= 1)),
+            (ShortDepth, but(lent, |l| l.depth = 0)),
+        ] {
+            refuses(refusal, format.code(), &layout, short);
+        }
     }
 }
 

@@ -3,6 +3,8 @@
 
 mod common;
 
+use std::fmt::Debug;
+
 use common::{Numbers, RGB, WIDE, but, bytes, region};
 use wentuqis::convert::try_d3dcolor_fill_pixel_bytes;
 use wentuqis::depth_texture::PlaneLayout;
@@ -11,19 +13,28 @@ use wentuqis::pixel_convert::{ConvertRegion, try_convert_region};
 use wentuqis::planar_yuv::{try_planar_yuv_layout, try_planar_yuv_layout_from_pitch};
 use wentuqis::{Refusal, Refused};
 
-/// The text of a conversion into A8R8G8B8 that is refused.
+/// What a refused call says.
+fn text<T: Debug>(reply: Result<T, Refused>) -> String {
+    reply.unwrap_err().to_string()
+}
+
+/// A conversion into A8R8G8B8 with buffers of these lengths, source first; refused, it keeps `dst`.
+fn reply(lens: [usize; 2], src_format: u32, region: &ConvertRegion) -> Result<(), Refused> {
+    let (src, mut dst) = (bytes(lens[0]), bytes(lens[1]));
+    let reply = try_convert_region(&mut dst, D3DFMT_A8R8G8B8, &src, src_format, region);
+    assert!(reply.is_ok() || dst == bytes(lens[1]));
+    reply
+}
+
+/// What such a conversion says if it is refused.
 fn convert_text(dst_len: usize, src_len: usize, src_format: u32, region: &ConvertRegion) -> String {
-    let (mut dst, src) = (bytes(dst_len), bytes(src_len));
-    try_convert_region(&mut dst, D3DFMT_A8R8G8B8, &src, src_format, region)
-        .unwrap_err()
-        .to_string()
+    text(reply([src_len, dst_len], src_format, region))
 }
 
 fn pair_text(src_format: u32, dst_format: u32) -> String {
     let region = ConvertRegion::default();
-    try_convert_region(&mut [], dst_format, &[], src_format, &region)
-        .unwrap_err()
-        .to_string()
+    let reply = try_convert_region(&mut [], dst_format, &[], src_format, &region);
+    text(reply)
 }
 
 const RGB_NAMES: &str =
@@ -154,9 +165,7 @@ fn coordinates_and_lengths_past_their_bits() {
 #[test]
 fn fills() {
     assert_eq!(
-        try_d3dcolor_fill_pixel_bytes(0, D3DFMT_D16)
-            .unwrap_err()
-            .to_string(),
+        text(try_d3dcolor_fill_pixel_bytes(0, D3DFMT_D16)),
         "no fill: D16 has no fill; the formats that have one are A8R8G8B8, X8R8G8B8, R5G6B5, \
          X1R5G5B5, A1R5G5B5, A4R4G4B4, A8, A2B10G10R10, A8B8G8R8, X8B8G8R8, G16R16, A2R10G10B10, \
          A16B16G16R16, L8, V8U8, Q8W8V8U8, V16U16, Q16W16V16U16, R16F, G16R16F, A16B16G16R16F, \
@@ -166,35 +175,27 @@ fn fills() {
 
 #[test]
 fn plane_layouts() {
-    for (width, height, alignment, text) in [
+    for ((width, height, alignment), expected) in [
         (
-            0,
-            480,
-            4,
+            (0, 480, 4),
             "zero size: the planes would be 0 x 480; both sizes are at least 1",
         ),
         (
-            5,
-            3,
-            6,
+            (5, 3, 6),
             "no power of two: the alignment is 6; 4 and 8 are powers of two",
         ),
         (
-            5,
-            3,
-            u32::MAX,
+            (5, 3, u32::MAX),
             "no power of two: the alignment is 4294967295; 2147483648 is the largest power of two",
         ),
         (
-            u32::MAX,
-            u32::MAX,
-            4,
+            (u32::MAX, u32::MAX, 4),
             "over 64 bits: the depth plane would have 4294967295 rows of 17179869180 bytes, \
              73786976260478468100 in all; at this pitch the height is at most 1073741824",
         ),
     ] {
-        let refused = PlaneLayout::try_new(width, height, alignment).unwrap_err();
-        assert_eq!(refused.to_string(), text);
+        let said = text(PlaneLayout::try_new(width, height, alignment));
+        assert_eq!(said, expected);
     }
 }
 
@@ -206,16 +207,8 @@ fn unpack_text(
     depth: usize,
     stencil: usize,
 ) -> String {
-    layout
-        .try_unpack(
-            format,
-            &bytes(packed),
-            pitch,
-            &mut bytes(depth),
-            &mut bytes(stencil),
-        )
-        .unwrap_err()
-        .to_string()
+    let (mut depth, mut stencil) = (bytes(depth), bytes(stencil));
+    text(layout.try_unpack(format, &bytes(packed), pitch, &mut depth, &mut stencil))
 }
 
 #[test]
@@ -247,63 +240,59 @@ fn depth_layouts() {
 #[test]
 fn depth_buffers() {
     let layout = PlaneLayout::new(5, 3, 8).unwrap();
-    let text = |format, packed, depth, stencil| unpack_text(format, layout, packed, depth, stencil);
+    let said = |format, packed, depth, stencil| unpack_text(format, layout, packed, depth, stencil);
     assert_eq!(
-        text(D3DFMT_A8R8G8B8, (60, 20), 72, 24),
+        said(D3DFMT_A8R8G8B8, (60, 20), 72, 24),
         "not packed depth: A8R8G8B8 has no depth planes; use D16, D24X8 or D24S8"
     );
     assert_eq!(
-        text(D3DFMT_D24S8, (60, 19), 72, 24),
+        said(D3DFMT_D24S8, (60, 19), 72, 24),
         "short packed rows: the packed pitch 19 is below a row of 5 pixels, 20 bytes"
     );
     assert_eq!(
-        text(D3DFMT_D24S8, (59, 20), 72, 24),
+        said(D3DFMT_D24S8, (59, 20), 72, 24),
         "short packed rows: the packed buffer has 59 bytes, 3 rows at pitch 20 need 60"
     );
     assert_eq!(
-        text(D3DFMT_D24S8, (60, 20), 71, 24),
+        said(D3DFMT_D24S8, (60, 20), 71, 24),
         "short depth plane: the depth plane has 71 bytes, 3 rows at pitch 24 need 72"
     );
     assert_eq!(
-        text(D3DFMT_D24S8, (60, 20), 72, 23),
+        said(D3DFMT_D24S8, (60, 20), 72, 23),
         "short stencil plane: the stencil plane has 23 bytes, 3 rows at pitch 8 need 24"
     );
 }
 
 #[test]
 fn planar_layouts() {
-    for (refused, text) in [
+    let wide = |format, width, rows| text(try_planar_yuv_layout(format, width, rows));
+    let pitched = |format, pitch, rows| text(try_planar_yuv_layout_from_pitch(format, pitch, rows));
+    let (yuy2, yv12, nv12) = (D3DFMT_YUY2, D3DFMT_YV12, D3DFMT_NV12);
+    for (said, expected) in [
+        (wide(yuy2, 6, 4), "YUY2 is not planar; use YV12 or NV12"),
+        (wide(nv12, 0, 4), "the width is 1 to 16384, not 0"),
         (
-            try_planar_yuv_layout(D3DFMT_YUY2, 6, 4),
-            "YUY2 is not planar; use YV12 or NV12",
-        ),
-        (
-            try_planar_yuv_layout(D3DFMT_NV12, 0, 4),
-            "the width is 1 to 16384, not 0",
-        ),
-        (
-            try_planar_yuv_layout_from_pitch(D3DFMT_NV12, 16386, 4),
+            pitched(nv12, 16386, 4),
             "the pitch is 1 to 16384, not 16386",
         ),
         (
-            try_planar_yuv_layout_from_pitch(D3DFMT_NV12, 7, 4),
+            pitched(nv12, 7, 4),
             "the pitch 7 is odd, and chroma needs an even one",
         ),
         (
-            try_planar_yuv_layout(D3DFMT_NV12, 6, 16385),
+            wide(nv12, 6, 16385),
             "the luma rows are 1 to 16384, not 16385",
         ),
         (
-            try_planar_yuv_layout(D3DFMT_YV12, 6, 3),
+            wide(yv12, 6, 3),
             "YV12 has an even number of luma rows, not 3",
         ),
         (
-            try_planar_yuv_layout(D3DFMT_NV12, 6, 10923),
+            wide(nv12, 6, 10923),
             "10923 luma rows and 5462 chroma rows are 16385, more than 16384",
         ),
     ] {
-        let said = refused.unwrap_err().to_string();
-        assert_eq!(said, format!("no planar layout: {text}"));
+        assert_eq!(said, format!("no planar layout: {expected}"));
     }
 }
 
@@ -342,14 +331,6 @@ fn random_region(numbers: &mut Numbers) -> ConvertRegion {
         dst_slice_pitch: small(200),
         depth: 1 + small(2),
     }
-}
-
-/// A conversion into A8R8G8B8 with buffers of these lengths, source first; refused, it keeps `dst`.
-fn reply(lens: [usize; 2], src_format: u32, region: &ConvertRegion) -> Result<(), Refused> {
-    let (src, mut dst) = (bytes(lens[0]), bytes(lens[1]));
-    let reply = try_convert_region(&mut dst, D3DFMT_A8R8G8B8, &src, src_format, region);
-    assert!(reply.is_ok() || dst == bytes(lens[1]));
-    reply
 }
 
 /// Lends what the texts ask for until none does; one byte less must be refused for the same reason.

@@ -136,27 +136,14 @@ enum Solid {
     Ball(Point, f64),
 }
 
-const fn x_round(from: Point, to: f64, radius: f64) -> Solid {
-    Solid::Round {
-        axis: 0,
-        from,
-        to,
-        radius,
-    }
-}
+/// Axes.
+const X: usize = 0;
+const Y: usize = 1;
+const Z: usize = 2;
 
-const fn y_round(from: Point, to: f64, radius: f64) -> Solid {
+const fn round(axis: usize, from: Point, to: f64, radius: f64) -> Solid {
     Solid::Round {
-        axis: 1,
-        from,
-        to,
-        radius,
-    }
-}
-
-const fn z_round(from: Point, to: f64, radius: f64) -> Solid {
-    Solid::Round {
-        axis: 2,
+        axis,
         from,
         to,
         radius,
@@ -175,44 +162,44 @@ const SOLIDS: &[(Solid, u8)] = &[
     (Block([-1.45, 0.30, 4.40], [-0.45, 0.46, 5.10]), STEEL),
     (Block([0.30, 0.30, 4.50], [0.75, 0.40, 5.00]), STEEL),
     // the motor, its fan cover, its terminal box
-    (x_round([-1.45, 0.78, 4.75], -0.35, 0.32), MACHINE),
-    (x_round([-1.62, 0.78, 4.75], -1.40, 0.29), MACHINE),
-    (x_round([-1.20, 0.78, 4.75], -1.16, 0.35), MACHINE),
-    (x_round([-0.98, 0.78, 4.75], -0.94, 0.35), MACHINE),
-    (x_round([-0.76, 0.78, 4.75], -0.72, 0.35), MACHINE),
-    (x_round([-0.54, 0.78, 4.75], -0.50, 0.35), MACHINE),
+    (round(X, [-1.45, 0.78, 4.75], -0.35, 0.32), MACHINE),
+    (round(X, [-1.62, 0.78, 4.75], -1.40, 0.29), MACHINE),
+    (round(X, [-1.20, 0.78, 4.75], -1.16, 0.35), MACHINE),
+    (round(X, [-0.98, 0.78, 4.75], -0.94, 0.35), MACHINE),
+    (round(X, [-0.76, 0.78, 4.75], -0.72, 0.35), MACHINE),
+    (round(X, [-0.54, 0.78, 4.75], -0.50, 0.35), MACHINE),
     (Block([-1.05, 1.05, 4.55], [-0.70, 1.26, 4.90]), MACHINE),
     // the coupling guard, the bearing housing, the casing with its flanges
-    (x_round([-0.35, 0.78, 4.75], 0.10, 0.15), MACHINE),
-    (x_round([0.05, 0.78, 4.75], 0.42, 0.20), MACHINE),
-    (x_round([0.38, 0.78, 4.75], 0.72, 0.46), MACHINE),
-    (x_round([0.70, 0.78, 4.75], 0.78, 0.30), MACHINE),
+    (round(X, [-0.35, 0.78, 4.75], 0.10, 0.15), MACHINE),
+    (round(X, [0.05, 0.78, 4.75], 0.42, 0.20), MACHINE),
+    (round(X, [0.38, 0.78, 4.75], 0.72, 0.46), MACHINE),
+    (round(X, [0.70, 0.78, 4.75], 0.78, 0.30), MACHINE),
     (Ball([0.55, 0.78, 4.75], 0.49), MACHINE),
     // suction: flange, pipe, a valve with its wheel, to the right wall
-    (x_round([0.95, 0.78, 4.75], 1.02, 0.28), PIPE),
-    (x_round([0.70, 0.78, 4.75], 4.60, 0.16), PIPE),
-    (x_round([1.95, 0.78, 4.75], 2.45, 0.24), PIPE),
-    (y_round([2.20, 0.78, 4.75], 1.30, 0.06), PIPE),
-    (y_round([2.20, 1.30, 4.75], 1.34, 0.26), PIPE),
+    (round(X, [0.95, 0.78, 4.75], 1.02, 0.28), PIPE),
+    (round(X, [0.70, 0.78, 4.75], 4.60, 0.16), PIPE),
+    (round(X, [1.95, 0.78, 4.75], 2.45, 0.24), PIPE),
+    (round(Y, [2.20, 0.78, 4.75], 1.30, 0.06), PIPE),
+    (round(Y, [2.20, 1.30, 4.75], 1.34, 0.26), PIPE),
     (Block([2.95, 0.00, 4.68], [3.05, 0.70, 4.82]), STEEL),
     // discharge: flange, riser, valve, bend, and away to the far wall
-    (y_round([0.55, 1.20, 4.75], 1.34, 0.22), PIPE),
-    (y_round([0.55, 0.90, 4.75], 2.75, 0.13), PIPE),
-    (y_round([0.55, 1.75, 4.75], 2.10, 0.20), PIPE),
-    (z_round([0.55, 1.92, 4.75], 4.30, 0.05), PIPE),
-    (z_round([0.55, 1.92, 4.30], 4.26, 0.22), PIPE),
+    (round(Y, [0.55, 1.20, 4.75], 1.34, 0.22), PIPE),
+    (round(Y, [0.55, 0.90, 4.75], 2.75, 0.13), PIPE),
+    (round(Y, [0.55, 1.75, 4.75], 2.10, 0.20), PIPE),
+    (round(Z, [0.55, 1.92, 4.75], 4.30, 0.05), PIPE),
+    (round(Z, [0.55, 1.92, 4.30], 4.26, 0.22), PIPE),
     (Ball([0.55, 2.75, 4.75], 0.15), PIPE),
-    (z_round([0.55, 2.75, 4.75], 8.60, 0.13), PIPE),
-    (z_round([0.55, 2.75, 6.60], 6.68, 0.21), PIPE),
+    (round(Z, [0.55, 2.75, 4.75], 8.60, 0.13), PIPE),
+    (round(Z, [0.55, 2.75, 6.60], 6.68, 0.21), PIPE),
     // the header under the ceiling, and its two drops along the far wall
-    (x_round([-4.20, 3.25, 8.10], 4.60, 0.14), PIPE),
-    (y_round([1.90, 0.00, 8.30], 3.25, 0.10), PIPE),
-    (y_round([2.55, 0.00, 8.30], 3.25, 0.10), PIPE),
+    (round(X, [-4.20, 3.25, 8.10], 4.60, 0.14), PIPE),
+    (round(Y, [1.90, 0.00, 8.30], 3.25, 0.10), PIPE),
+    (round(Y, [2.55, 0.00, 8.30], 3.25, 0.10), PIPE),
     // the cabinet with its plinth and door frame, and a tank in the far corner
     (Block([-2.85, 0.00, 7.45], [-1.45, 0.10, 8.60]), CABINET),
     (Block([-2.80, 0.10, 7.40], [-1.50, 2.10, 8.60]), CABINET),
     (Block([-2.20, 1.00, 7.36], [-2.14, 1.20, 7.40]), CABINET),
-    (y_round([3.60, 0.00, 7.50], 2.20, 0.70), MACHINE),
+    (round(Y, [3.60, 0.00, 7.50], 2.20, 0.70), MACHINE),
     (Ball([3.60, 2.05, 7.50], 0.70), MACHINE),
 ];
 

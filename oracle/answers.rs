@@ -1,0 +1,105 @@
+//! What the original answers to a call, for those who record its answers and those who compare.
+
+use original::{
+    depth_texture::{PackedDepth, PlaneLayout},
+    pixel_convert::{self, ConvertRegion},
+    planar_yuv::{self, PlanarYuvLayout},
+};
+
+use crate::{
+    calls::{ConvertCall, DepthCall},
+    common::{Planes, Region},
+    paper,
+};
+
+/// The turns of its loops, an empty region's too.
+pub fn effort(region: &Region) -> u128 {
+    (region.depth as u128)
+        .saturating_mul(region.height.max(1).into())
+        .saturating_mul(region.width.max(1).into())
+}
+
+/// Whether it can be asked of a conversion with this reply by document 01: it refuses before it
+/// looks at a texel, or no sum of its wraps and it `ends` soon.
+pub fn can_convert(call: &ConvertCall, reply: u32, ends: impl FnOnce() -> bool) -> bool {
+    let fits = || paper::is_empty(&call.region) || call.conversion().sums_fit();
+    matches!(reply, 1 | 2) || fits() && ends()
+}
+
+/// Whether it accepts, and its destination.
+pub fn convert(call: &ConvertCall) -> (bool, Vec<u8>) {
+    let mut dst = call.dst.clone();
+    let accepted = pixel_convert::convert_region(
+        &mut dst,
+        call.dst_format,
+        &call.src,
+        call.src_format,
+        &ConvertRegion::from(&call.region),
+    );
+    (accepted, dst)
+}
+
+impl From<&Planes> for PlaneLayout {
+    fn from(planes: &Planes) -> Self {
+        Self {
+            width: planes.width,
+            height: planes.height,
+            depth_pitch: planes.depth_pitch,
+            stencil_pitch: planes.stencil_pitch,
+        }
+    }
+}
+
+/// Whether it accepts, and its depth and stencil planes.
+pub fn unpack(call: &DepthCall) -> (bool, (Vec<u8>, Vec<u8>)) {
+    let (mut depth, mut stencil) = (call.depth.clone(), call.stencil.clone());
+    let accepted = PackedDepth::from_d3d(call.format).is_some_and(|format| {
+        PlaneLayout::from(&call.planes).unpack(
+            &format,
+            &call.packed,
+            call.packed_pitch,
+            &mut depth,
+            &mut stencil,
+        )
+    });
+    (accepted, (depth, stencil))
+}
+
+/// Whether it accepts, and its packed rows.
+pub fn pack(call: &DepthCall) -> (bool, Vec<u8>) {
+    let mut packed = call.packed.clone();
+    let accepted = PackedDepth::from_d3d(call.format).is_some_and(|format| {
+        PlaneLayout::from(&call.planes).pack(
+            &format,
+            &call.depth,
+            &call.stencil,
+            &mut packed,
+            call.packed_pitch,
+        )
+    });
+    (accepted, packed)
+}
+
+/// Width, height, depth pitch, stencil pitch.
+pub fn plane_layout(width: u32, height: u32, alignment: u32) -> Option<[u64; 4]> {
+    PlaneLayout::new(width, height, alignment)
+        .map(|it| [it.width, it.height, it.depth_pitch, it.stencil_pitch].map(|it| it as u64))
+}
+
+/// Pitch, luma rows, chroma rows, total bytes.
+pub fn planar_layout(format: u32, width: u32, height: u32) -> Option<[u64; 4]> {
+    planar_yuv::planar_yuv_layout(format, width, height).map(planar_numbers)
+}
+
+/// Pitch, luma rows, chroma rows, total bytes.
+pub fn planar_layout_from_pitch(format: u32, pitch: usize, luma_rows: usize) -> Option<[u64; 4]> {
+    planar_yuv::planar_yuv_layout_from_pitch(format, pitch, luma_rows).map(planar_numbers)
+}
+
+/// Chroma starts where the luma rows end.
+fn planar_numbers(layout: PlanarYuvLayout) -> [u64; 4] {
+    let pitch = layout.pitch() as usize;
+    let luma_rows = layout.nv12_uv_offset(0, 0) / pitch;
+    let chroma_rows = layout.storage_rows() as usize - luma_rows;
+    [pitch, luma_rows, chroma_rows, layout.total_bytes()].map(|it| it as u64)
+}
