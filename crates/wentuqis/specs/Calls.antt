@@ -2,6 +2,7 @@
 -- Assumes nothing.
 use mathlib.Core.List.{List, [], _∷_}
 use Prim.Native.Nat.{ℕ}
+use lib.ListN.{getD}
 use Rattle.pixel_convert.specs.declared.ConvertRegion.{ConvertRegion}
 use Rattle.planar_yuv.specs.Answers.{Reply}
 use Rattle.convert.specs.declared.FillReply.{FillReply}
@@ -31,6 +32,10 @@ regionOf src-x src-y dst-x dst-y width height src-pitch dst-pitch src-slice-pitc
 -- the three bytes of a colour, in order
 abbrev pub rgbList : Rgb → List ℕ
 rgbList p = p .r ∷ p .g ∷ p .b ∷ []
+
+-- the colour that three bytes are
+abbrev pub colourIn : List ℕ → Rgb
+colourIn l = record { r = getD l 0 0; g = getD l 1 0; b = getD l 2 0 }
 
 -- pitch, luma rows, chroma rows and total bytes of a planar layout; zeros where it is refused
 abbrev pub planarValues : Reply → List ℕ

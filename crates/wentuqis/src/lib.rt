@@ -18,7 +18,7 @@ ghost use Rattle.depth_texture.specs.Layouts.{layoutRefusal, layoutFor, answerN
 ghost use Rattle.depth_texture.specs.Replies.{refusalOf};
 ghost use Rattle.depth_texture.specs.Planes.{unpackedDepth, unpackedStencil, packedBuffer};
 ghost use Rattle.depth_texture.specs.Promises.{firstRefusal, KeepsAll, Restores, SamePixels, PlanesKept, SameElsewhere, NearestCodes};
-ghost use Rattle.wentuqis.specs.Calls.{regionOf, planesOf, rgbList, planarValues, planeValues, fillNumber, depthNumber};
+ghost use Rattle.wentuqis.specs.Calls.{regionOf, planesOf, rgbList, colourIn, planarValues, planeValues, fillNumber, depthNumber};
 use convert::FillReply;
 use depth_texture::DepthReply;
 use depth_texture::PlaneLayout;
@@ -100,7 +100,7 @@ pub extern "C" fn wentuqis_convert_region(
 #[no_mangle]
 pub extern "C" fn wentuqis_yuv_to_rgb8(luma: u8, cb: u8, cr: u8, rgb: &mut [u8; 3])
     ensures is { λ _. ⌜ now (rgb .exit) ≡ rgbList (rgbOf bt601 luma cb cr) ⌝ }
-    ensures near { λ _. ⌜ RgbNear decimalUnit decimalSlack (redDecimal luma cb cr) (greenDecimal luma cb cr) (blueDecimal luma cb cr) (rgbOf bt601 luma cb cr) ⌝ }
+    ensures near { λ _. ⌜ RgbNear decimalUnit decimalSlack (redDecimal luma cb cr) (greenDecimal luma cb cr) (blueDecimal luma cb cr) (colourIn (now (rgb .exit))) ⌝ }
 {
     let p = stretch_rect::yuv_to_rgb8(luma, cb, cr);
     *rgb = [p.r, p.g, p.b];

@@ -3,7 +3,6 @@ use Prim.Native.Nat.{_≤_, _-_}
 use borrow.Author.Needs.{needs}
 use Rattle.replay.proofs.replay_records.Statement.{statement}
 use Rattle.replay.proofs.replay_records.Tie as tie
-use Rattle.replay.proofs.replay_case.Reads as replay-case-reads
 
 abbrev Inv-loop : tie.InvT-loop
 Inv-loop records size cases₀ refused₀ differ₀ n at₀ cases refused differ at = at ≤ n

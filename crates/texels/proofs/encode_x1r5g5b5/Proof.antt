@@ -39,4 +39,3 @@ returns c =
 pub encode-x1r5g5b5-spec : {M : Type 1} → statement M
 encode-x1r5g5b5-spec =
     tie.close (tie.spec truncate5-requires truncate5-requires-2 truncate5-requires-3 returns)
--- x

@@ -1,7 +1,5 @@
 -- `wentuqis::wentuqis_yuv_to_rgb8` meets its contract: the inner call's colour, byte by byte. Assumes nothing.
-use mathlib.Core.Path.{_≡_, ap, subst}
-use Rattle.stretch_rect.specs.declared.Rgb.{Rgb}
-use Rattle.stretch_rect.specs.Yuv.{RgbNear, decimalUnit, decimalSlack, redDecimal, greenDecimal, blueDecimal}
+use mathlib.Core.Path.{_≡_, ap}
 use Rattle.wentuqis.specs.Calls.{rgbList}
 use borrow.Author.Needs.{needs}
 use Rattle.wentuqis.proofs.wentuqis_yuv_to_rgb8.Statement.{statement}
@@ -11,10 +9,7 @@ yuv-to-rgb8-requires : tie.Need-yuv-to-rgb8-requires
 yuv-to-rgb8-requires c κs = search needs
 
 returns : tie.Need-returns
-returns c =
-    let y = c .before .yuv-to-rgb8 in
-    let g = c .before .before .args in
-    (ap rgbList (y .ensures .0), subst (λ (p : Rgb). RgbNear decimalUnit decimalSlack (redDecimal (g .luma) (g .cb) (g .cr)) (greenDecimal (g .luma) (g .cb) (g .cr)) (blueDecimal (g .luma) (g .cb) (g .cr)) p) (y .ensures .0) (y .ensures .1))
+returns c = let y = c .before .yuv-to-rgb8 in (ap rgbList (y .ensures .0), y .ensures .1)
 
 pub wentuqis-yuv-to-rgb8-spec : {M : Type 1} → statement M
 wentuqis-yuv-to-rgb8-spec = tie.close (tie.spec yuv-to-rgb8-requires returns)
