@@ -4,7 +4,7 @@
 // and what is promised of them; what texels decode and encode to is in the crate `texels`, where they lie in `places`.
 // Ported from pixel_convert.rs of athei/mtld3d (an altered version, see NOTICE).
 ghost use mathlib.Core.Path.{_≡_};
-ghost use mathlib.Core.Bool.{true, _&&_};
+ghost use mathlib.Core.Bool.{true, false, _&&_};
 ghost use Prim.Native.Nat.{ℕ, _+_, _≤_, _<_, _%_, _/_};
 ghost use lib.Dec.{eqb};
 ghost use lib.ListN.{length, take};
@@ -16,7 +16,7 @@ ghost use Rattle.planar_yuv.specs.Answers.{Legal};
 ghost use Rattle.texels.specs.Texels.{encodedBytes};
 ghost use Rattle.places.specs.Places.{isPicture, texelStart, layoutPlaces, placesAt, placesIn, bytesAt};
 ghost use Rattle.places.specs.Planar.{LayoutFor};
-ghost use Rattle.pixel_convert.specs.Regions.{opaqueOf, texelOf, texelAt, canConvertUpdate, canConvert, badPlanarShape, convertReply, rowWritten, sliceWritten, regionWritten, convertedBytes, NearSource, OthersKept};
+ghost use Rattle.pixel_convert.specs.Regions.{opaqueOf, texelOf, texelAt, canConvertUpdate, canConvert, badPlanarShape, isEmpty, sourceInside, destinationInside, replyTo, convertReply, replyNumber, rowWritten, sliceWritten, regionWritten, convertedBytes, NearSource, OthersKept};
 ghost use Rattle.pixel_convert.specs.Rows.{RowFits};
 use formats::D3DFMT_A8R8G8B8;
 use formats::D3DFMT_A16B16G16R16;
@@ -47,6 +47,21 @@ pub enum ConvertReply {
     PlanarShape,
     SourceOutside,
     DestinationOutside,
+}
+
+impl ConvertReply {
+    // Whether the reply is no refusal.
+    pub fn is_accepted(self) -> bool
+        ensures { λ r. ⌜ r ≡ eqb (replyNumber self) 0 ⌝ }
+    {
+        match self {
+            ConvertReply::Accepted => true,
+            ConvertReply::Unsupported => false,
+            ConvertReply::PlanarShape => false,
+            ConvertReply::SourceOutside => false,
+            ConvertReply::DestinationOutside => false,
+        }
+    }
 }
 
 // ---- one texel from source to destination
@@ -330,6 +345,83 @@ fn bad_planar_shape(src_format: u32, region: ConvertRegion) -> bool
     region.src_slice_pitch % region.src_pitch != 0
 }
 
+// Whether every source texel of a region that is not empty lies within len bytes.
+fn source_inside(len: usize, src_format: u32, region: ConvertRegion) -> bool
+    requires { ⌜ (isPicture «src_format» ≡ true) × (isEmpty region ≡ false) ⌝ }
+    ensures { λ r. ⌜ r ≡ sourceInside len «src_format» region ⌝ }
+{
+    places::inside(
+        len,
+        src_format,
+        region.src_pitch,
+        region.src_slice_pitch,
+        region.src_x,
+        region.src_y,
+        region.width,
+        region.height,
+        region.depth,
+    )
+}
+
+// The same of the destination.
+fn destination_inside(len: usize, dst_format: u32, region: ConvertRegion) -> bool
+    requires { ⌜ (isPicture «dst_format» ≡ true) × (isEmpty region ≡ false) ⌝ }
+    ensures { λ r. ⌜ r ≡ destinationInside len «dst_format» region ⌝ }
+{
+    places::inside(
+        len,
+        dst_format,
+        region.dst_pitch,
+        region.dst_slice_pitch,
+        region.dst_x,
+        region.dst_y,
+        region.width,
+        region.height,
+        region.depth,
+    )
+}
+
+// Whether a region has no texel.
+fn is_empty(region: ConvertRegion) -> bool
+    ensures { λ r. ⌜ r ≡ isEmpty region ⌝ }
+{
+    if region.width == 0 {
+        return true;
+    }
+    if region.height == 0 {
+        return true;
+    }
+    region.depth == 0
+}
+
+// The reply to a conversion, from the lengths of its buffers: the checks of document 01 in their order.
+fn check(
+    src_len: usize,
+    src_format: u32,
+    dst_len: usize,
+    dst_format: u32,
+    region: ConvertRegion,
+) -> ConvertReply
+    ensures { λ r. ⌜ r ≡ replyTo «src_format» «dst_format» region «src_len» «dst_len» ⌝ }
+{
+    if !can_convert(src_format, dst_format) {
+        return ConvertReply::Unsupported;
+    }
+    if bad_planar_shape(src_format, region) {
+        return ConvertReply::PlanarShape;
+    }
+    if is_empty(region) {
+        return ConvertReply::Accepted;
+    }
+    if !source_inside(src_len, src_format, region) {
+        return ConvertReply::SourceOutside;
+    }
+    if !destination_inside(dst_len, dst_format, region) {
+        return ConvertReply::DestinationOutside;
+    }
+    ConvertReply::Accepted
+}
+
 // Converts a region of `src` into `dst`, texel by texel, by slice, row and column. The reply is decided before the first byte is
 // written; refused, `dst` is as it was.
 pub fn convert_region(
@@ -344,47 +436,13 @@ pub fn convert_region(
     ensures near { λ _. ⌜ NearSource (now (src .entry)) (now (dst .entry)) (now (dst .exit)) «src_format» «dst_format» region ⌝ }
     ensures kept { λ _. ⌜ OthersKept (now (dst .entry)) (now (dst .exit)) «dst_format» region ⌝ }
 {
-    if !can_convert(src_format, dst_format) {
-        return ConvertReply::Unsupported;
+    let reply = check(src.len(), src_format, dst.len(), dst_format, region);
+    if !reply.is_accepted() {
+        return reply;
     }
-    if bad_planar_shape(src_format, region) {
-        return ConvertReply::PlanarShape;
-    }
-    if region.width == 0 {
-        return ConvertReply::Accepted;
-    }
-    if region.height == 0 {
-        return ConvertReply::Accepted;
-    }
-    if region.depth == 0 {
-        return ConvertReply::Accepted;
-    }
-    if !places::inside(
-        src.len(),
-        src_format,
-        region.src_pitch,
-        region.src_slice_pitch,
-        region.src_x,
-        region.src_y,
-        region.width,
-        region.height,
-        region.depth,
-    ) {
-        return ConvertReply::SourceOutside;
-    }
-    if !places::inside(
-        dst.len(),
-        dst_format,
-        region.dst_pitch,
-        region.dst_slice_pitch,
-        region.dst_x,
-        region.dst_y,
-        region.width,
-        region.height,
-        region.depth,
-    ) {
-        return ConvertReply::DestinationOutside;
+    if is_empty(region) {
+        return reply;
     }
     convert_slices(dst, dst_format, src, src_format, region);
-    ConvertReply::Accepted
+    reply
 }
