@@ -214,13 +214,15 @@ fn encode_d24x8(value: DepthStencil, pixel: &mut [u8])
     put32(pixel, code_of(16777215, value.depth) as u32);
 }
 
-// D24S8: the code above the stencil byte.
+// D24S8: the stencil byte, and above it the code's bytes from the lowest one on.
 fn encode_d24s8(value: DepthStencil, pixel: &mut [u8])
     requires { ⌜ (4 ≤ length (now pixel)) × T (not (isNan (value .depth))) ⌝ }
     ensures { λ _. ⌜ now (pixel .exit) ≡ sets (now (pixel .entry)) 0 (encoded codes.D24S8 value) ⌝ }
 {
     let code = code_of(16777215, value.depth) as u32;
-    put32(pixel, code * 0x100 + (value.stencil as u32));
+    let lowest = code % 0x100;
+    let stencil = value.stencil as u32;
+    put32(pixel, stencil + lowest * 0x100 + code / 0x100 * 0x1_0000);
 }
 
 // A depth's four bytes, at byte `at` of a depth plane.
