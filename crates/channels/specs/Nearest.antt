@@ -42,7 +42,7 @@ split a b = go (ltb a b) (ltb→lt a b) (nltb→le a b)
     go false h k = inr (k tt)
 
 -- a number below q lies a step lower at least
-step : (j q d : ℕ) → j < q → j * d + d ≤ q * d
+pub step : (j q d : ℕ) → j < q → j * d + d ≤ q * d
 step j q d h = le-trans (le-of-eq (sym (suc-mul j d))) (mul-le-mul-right d h)
 
 adjacent : (j q d : ℕ) → 0 < d → j * d + d ≡ q * d → suc j ≡ q
