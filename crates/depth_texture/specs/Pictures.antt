@@ -5,7 +5,7 @@ use mathlib.Core.Path.{_≡_, refl, sym, ap, _∙_, subst}
 use mathlib.Core.List.{List}
 use mathlib.Core.Logic.{_⊎_, inl, inr, ⊎-elim}
 use Prim.Native.Nat.{ℕ, zero, suc, _+_, _-_, _*_, _≤_, _<_}
-use native.Mathlib.Nat.{not-suc-le-zero, mul-le-mul-right, suc-mul, mul-comm}
+use native.Mathlib.Nat.{not-suc-le-zero, mul-le-mul-right, mul-comm}
 use native.Mathlib.Omega.{arith}
 use lib.ListN.{length, getD, take, drop}
 use lib.Arith.{lt-of-le-ne}
@@ -13,7 +13,7 @@ use lib.Seq.{sets, length-sets}
 use Rattle.words.specs.Tests.{lt-or-eq}
 use Rattle.words.specs.Iterate.{iterate, iterate-zero, iterate-step, iterate-keeps, iterate-length, iterate-same}
 use Rattle.words.specs.Slices.{sets-before, sets-after, sets-read, part-apart}
-use Rattle.channels.specs.Nearest.{split}
+use Rattle.channels.specs.Nearest.{split, step}
 
 -- where pixel (x, y) begins
 abbrev pub place : (pitch size x y : ℕ) → ℕ
@@ -43,10 +43,6 @@ abbrev pub RowsIn : (len pitch size width height : ℕ) → Type 0
 RowsIn len pitch size width height = (y : ℕ) → y < height → RowIn len (y * pitch) size width
 
 -- ---- places
--- a column below another ends where the other begins, or earlier
-step : (j k size : ℕ) → j < k → j * size + size ≤ k * size
-step j k size h = omega (arith, suc-mul j size, mul-le-mul-right {m = suc j} {n = k} size h)
-
 -- two pixels of one row
 pub columns-apart : (from size x x′ : ℕ) → (x′ ≡ x → ⊥) → (from + x * size + size ≤ from + x′ * size) ⊎ (from + x′ * size + size ≤ from + x * size)
 columns-apart from size x x′ ne = elim (split x x′) [
