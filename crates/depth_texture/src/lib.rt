@@ -213,7 +213,7 @@ fn encode_d24s8(value: DepthStencil, pixel: &mut [u8])
     let code = code_of(16777215, value.depth) as u32;
     let lowest = code % 0x100;
     let stencil = value.stencil as u32;
-    put32(pixel, stencil + lowest * 0x100 + code / 0x100 * 0x1_0000);
+    put32(pixel, code / 0x100 * 0x1_0000 + lowest * 0x100 + stencil);
 }
 
 // A depth's four bytes, at byte `at` of a depth plane.

@@ -14,8 +14,8 @@ use Rattle.depth_texture.proofs.encode_d24s8.Tie as tie
 code-le : (c : tie.After-code-of) → c .code-of .result ≤ 16777215
 code-le c = omega (arith, c .code-of .ensures, code-for 16777215 (c .before .before .args .value .depth) .is-code)
 
--- the stencil, the code's lowest byte, and the rest of the code
-by-bytes : (c s : ℕ) → c * 256 + s ≡ s + c % 256 * 256 + c / 256 * 65536
+-- the rest of the code, its lowest byte, and the stencil
+by-bytes : (c s : ℕ) → c * 256 + s ≡ c / 256 * 65536 + c % 256 * 256 + s
 by-bytes c s = omega arith
 
 code-of-requires : tie.Need-code-of-requires
@@ -30,11 +30,11 @@ cast-stencil c = search needs
 mul-put32 : tie.Need-mul-put32
 mul-put32 c = omega (arith, code-le (c .before .before))
 
-add-put32 : tie.Need-add-put32
-add-put32 c = omega (arith, code-le (c .before .before))
-
 mul-put32-2 : tie.Need-mul-put32-2
 mul-put32-2 c = omega (arith, code-le (c .before .before))
+
+add-put32 : tie.Need-add-put32
+add-put32 c = omega (arith, code-le (c .before .before))
 
 add-put32-2 : tie.Need-add-put32-2
 add-put32-2 c = omega (arith, code-le (c .before .before))
@@ -60,8 +60,8 @@ encode-d24s8-spec =
     cast-code
     cast-stencil
     mul-put32
-    add-put32
     mul-put32-2
+    add-put32
     add-put32-2
     put32-requires
     same-length
