@@ -1,10 +1,12 @@
--- Expanding by shifts and masks, as quotients by powers of two, for any width from 4 to 8.
+-- Expanding by shifts and masks, as quotients by powers of two, for any width from 4 to 8; and a power of two made by a shift.
 -- Assumes nothing.
 use mathlib.Core.Path.{_≡_, sym, ap, _∙_, subst}
 use Prim.Native.Nat.{ℕ, _+_, _*_, _-_, _/_, _%_, _^_, _≤_, _<_}
+use native.Mathlib.Nat.{one-mul, mod-eq-of-lt, lt-trans}
 use native.Mathlib.Omega.{arith}
 use lib.Bits.{bitAnd, bitOr, and-mask, mask-lt, or-shifted}
-use lib.Pow.{shl-exact, shr-lt}
+use lib.Dec.{lit<}
+use lib.Pow.{pow-lt, shl-exact, shr-lt}
 use Rattle.channels.specs.Expansion.{expanded, two-copies}
 
 -- `(k << (8 - n)) | (k >> (2 * n - 8))` on a byte
@@ -18,3 +20,7 @@ repeated-top n k l u h =
 -- the same of the n low bits of a word
 pub masked : (n v : ℕ) → 4 ≤ n → n ≤ 8 → bitOr (bitAnd v (2 ^ n - 1) * 2 ^ (8 - n) % 2 ^ 8) (bitAnd v (2 ^ n - 1) / 2 ^ (2 * n - 8)) ≡ expanded n (v % 2 ^ n)
 masked n v l u = repeated-top n (bitAnd v (2 ^ n - 1)) l u (mask-lt v n) ∙ ap (expanded n) (and-mask v n)
+
+-- `1u64 << s`
+pub one-shifted : (s : ℕ) → s < 62 → 1 * 2 ^ s % 18446744073709551616 ≡ 2 ^ s
+one-shifted s h = ap (λ (x : ℕ). x % 18446744073709551616) (one-mul (2 ^ s)) ∙ mod-eq-of-lt (lt-trans (pow-lt h) (lit< tt))

@@ -1,10 +1,10 @@
 -- Exact values of channels, in 255ths of full scale, and how near each way of reading or writing a channel comes to them.
 -- Assumes nothing.
-use mathlib.Core.Path.{_≡_, refl, sym, ap, _∙_, subst}
-use Prim.Native.Nat.{ℕ, _+_, _*_, _-_, _^_, _%_, _≤_, _<_}
+use mathlib.Core.Path.{_≡_}
+use Prim.Native.Nat.{ℕ, _*_, _-_, _^_, _≤_, _<_}
 use native.Mathlib.Omega.{arith}
-use native.Mathlib.Nat.{le-of-lt, mul-assoc, mul-comm, mul-pos}
-use lib.Pow.{pow-pos, pow-mono}
+use native.Mathlib.Nat.{le-of-lt, mul-assoc}
+use lib.Pow.{pow-mono}
 use lib.Dec.{lit<}
 use lib.Ieee.{Float}
 use Rattle.channels.specs.Fractions.{Fraction, _over_, Near, whole-near, near-sym}

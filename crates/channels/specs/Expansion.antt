@@ -1,13 +1,12 @@
 -- A channel of n bits as a byte, and back, for every width from 1 to 8 at once: expanding repeats its bits, truncating drops low bits
 -- (document 01 says that a channel opens and closes).
 -- Assumes nothing.
-use mathlib.Core.Path.{_≡_, refl, sym, ap, ap₂, _∙_, subst}
-use mathlib.Core.Bool.{Bool, true, false}
+use mathlib.Core.Path.{_≡_, sym, ap, ap₂, _∙_, subst}
+use mathlib.Core.Bool.{Bool}
 use Prim.Native.Nat.{ℕ, zero, suc, _+_, _*_, _-_, _/_, _%_, _^_, _≤_, _<_}
 use native.Mathlib.Omega.{arith}
 use native.Mathlib.Nat.{not-suc-le-zero, add-mul, mul-add, mul-one, mul-assoc, mul-comm, mul-le-mul-left, mul-le-mul-right, mod-lt, div-add-mod'}
 use lib.Pow.{pow-add, pow-pos, shr-lt}
-use native.Mathlib.Decide.{decLt}
 use lib.Dec.{T, eqb, ltb, eqb→eq, ltb→lt}
 use Rattle.words.specs.Computed.{everyBelow, below-at}
 

@@ -1,12 +1,12 @@
 -- A binary32 number clamped to 0..1 as a fraction, and what its bit pattern says of that fraction.
 -- Assumes nothing.
 use mathlib.Core.Path.{_≡_, refl, sym, ap, _∙_, subst}
-use mathlib.Core.Logic.{_⊎_, inl, inr}
+use mathlib.Core.Logic.{inl, inr}
 use Prim.Native.Nat.{ℕ, zero, suc, _+_, _-_, _*_, _/_, _%_, _^_, _≤_, _<_, min, zero-le}
 use native.Mathlib.Nat.{le-refl, le-trans, le-of-eq, le-of-lt, eq-or-lt-of-le, lt-of-lt-of-le, not-le-of-lt, zero-lt-suc, mul-one, mul-comm, mul-assoc, mul-right-comm, mul-le-mul-right, mul-lt-mul-of-pos-right, mul-le-mul, lt-of-mul-lt-mul-right, le-of-mul-le-mul-right, eq-of-mul-eq-mul-right, min-eq-left, min-eq-right, min-le-right, mod-eq-of-lt}
 use native.Mathlib.Omega.{arith}
-use mathlib.Core.Bool.{Bool, true, false, not, cond, true≢false}
-use lib.Dec.{T, leb, eqb, leb→le, le→leb, lt→ltb, eqb→eq, not-T, lit≤}
+use mathlib.Core.Bool.{Bool, true, false, cond, true≢false}
+use lib.Dec.{T, leb, eqb, leb→le, le→leb, lt→ltb, eqb→eq, not-T}
 use lib.Pow.{pow-add, pow-pos, pow-mono, shl-lt}
 use lib.Ieee.{Float, nan, inf, fin, binary32, up, down, odd, ofFields, ofBits, isNan}
 use lib.Ieee.Fits.{down-pos}

@@ -1,9 +1,9 @@
 -- Exact values as fractions of whole numbers, and how far two lie apart, in quarters.
 -- Assumes nothing.
 use mathlib.Core.Path.{_≡_, refl, sym, ap, ap₂, _∙_, subst}
-use Prim.Native.Nat.{ℕ, _+_, _*_, _-_, _/_, _%_, _≤_, _<_}
+use Prim.Native.Nat.{ℕ, _+_, _*_, _≤_, _<_}
 use native.Mathlib.Omega.{arith}
-use native.Mathlib.Nat.{add-comm, add-mul, mul-add, mul-assoc, mul-comm, mul-one, one-mul, mul-left-comm, mul-right-comm, mul-le-mul-right, le-of-mul-le-mul-right, mul-pos}
+use native.Mathlib.Nat.{add-comm, add-mul, mul-assoc, mul-comm, mul-one, one-mul, mul-left-comm, mul-right-comm, mul-le-mul-right, le-of-mul-le-mul-right, mul-pos}
 
 -- top / bottom
 pub record Fraction : Type 0 where

@@ -2,6 +2,7 @@
 pub mod Fractions
 pub mod Expansion
 pub mod Nearest
+pub mod Even
 pub mod Luminance
 pub mod Floats
 pub mod Exact

@@ -2,10 +2,11 @@
 // A channel of 4, 5 or 6 bits, or of one, becomes a byte by repeating its bits, and a byte becomes such a channel by dropping
 // its low bits. Other codes are the nearest ones, luminance is a weighted mean, and a binary32 channel is worked out from its
 // bits. specs/ has each as a law over the width, the maximum or the number, with its error: Expansion, Nearest, Luminance,
-// Floats, Exact.
+// Floats, Exact; Even joins the nearest with a tie to the even one to the way a shift computes it.
 ghost use mathlib.Core.Path.{_≡_};
 ghost use Prim.Native.Nat.{_*_, _≤_, _<_, _%_, _^_};
 ghost use lib.Ieee.{binary32, ofBits};
+ghost use lib.Ieee.Nearest.{closest};
 ghost use Rattle.channels.specs.Expansion.{expanded, truncated};
 ghost use Rattle.channels.specs.Nearest.{rounded, Nearest, NearestUp};
 ghost use Rattle.channels.specs.Luminance.{luminanceOf};
@@ -139,6 +140,17 @@ fn nearest_shifted(n: u64, s: u32) -> u64
     ensures { λ r. ⌜ r ≡ rounded n (2 ^ s) ⌝ }
 {
     (n * 2 + (1u64 << s)) >> (s + 1)
+}
+
+// n / 2^s to the nearest whole number, a tie to the even one: a half is added, less one where the quotient is even. Codes of
+// binary16 and of packed depths are rounded so.
+pub fn nearest_even_shifted(n: u64, s: u32) -> u64
+    requires { ⌜ (n < 4611686018427387904) × (0 < s) × (s < 62) ⌝ }
+    ensures { λ r. ⌜ r ≡ closest n (2 ^ s) ⌝ }
+{
+    let half = 1u64 << (s - 1);
+    let kept = n >> s;
+    (n + (half - 1) + kept % 2) >> s
 }
 
 // A binary32 channel, given by its bits, as the nearest byte, a half up. What is negative and a NaN is 0, and what is one or

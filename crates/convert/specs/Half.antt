@@ -16,7 +16,7 @@ use lib.Ieee.Nearest.{closest}
 use borrow.Author.Tests.{leb-true, leb-false, ltb-true, ltb-false}
 use Rattle.words.specs.Tests.{pick}
 use Rattle.channels.specs.Nearest.{apart, NearestEven, split}
-use Rattle.convert.specs.Even.{rounds, closest-even}
+use Rattle.channels.specs.Even.{rounds, closest-even}
 use Rattle.convert.specs.Units.{unitsOf, units-fields, units-lt}
 
 -- the number of the binary16 code j without a sign, in units of 2^-24: its fraction has ten digits

@@ -4,11 +4,10 @@
 // specs/Half says which binary16 number is meant, specs/Fill which bytes: the codes in the lanes of formats' table.
 ghost use mathlib.Core.Path.{_≡_};
 ghost use mathlib.Core.List.{[], _∷_};
-ghost use Prim.Native.Nat.{_+_, _*_, _-_, _%_, _≤_, _<_, _^_};
+ghost use Prim.Native.Nat.{_+_, _*_, _-_, _%_, _≤_, _<_};
 ghost use lib.ListN.{length, take, drop};
 ghost use lib.Seq.{sets};
 ghost use lib.Ieee.{binary32, ofBits, toBits};
-ghost use lib.Ieee.Nearest.{closest};
 ghost use Rattle.formats.specs.Lanes.{red, green, blue, alpha, unsigned, signed, float16, float32};
 ghost use Rattle.channels.specs.Expansion.{truncated};
 ghost use Rattle.convert.specs.Half.{codeOf, halfOf, HalfOf};
@@ -53,23 +52,6 @@ pub struct FillPixel {
     pub reply: FillReply,
 }
 
-// n / 2^s to the nearest whole number, a tie to the even one.
-fn nearest_even_shifted(n: u32, s: u32) -> u32
-    requires { ⌜ (n < 16777216) × (0 < s) × (s < 24) ⌝ }
-    ensures { λ r. ⌜ r ≡ closest n (2 ^ s) ⌝ }
-{
-    let step = 1u32 << s;
-    let kept = n >> s;
-    let dropped = n & (step - 1);
-    if dropped * 2 < step {
-        return kept;
-    }
-    if step < dropped * 2 {
-        return kept + 1;
-    }
-    kept + kept % 2
-}
-
 // binary32's exponent field of 2^-14, the smallest normal binary16 number.
 const SMALLEST_NORMAL: u32 = 113;
 
@@ -80,11 +62,12 @@ fn nearest_f16(bits: u32) -> u32
     ensures { λ r. ⌜ r ≡ codeOf (ofBits binary32 bits) ⌝ }
 {
     let exponent = bits / 0x80_0000;
-    let significand = 0x80_0000 + bits % 0x80_0000;
+    let significand = 0x80_0000 + (bits % 0x80_0000) as u64;
     if exponent >= SMALLEST_NORMAL {
-        (exponent - SMALLEST_NORMAL) * 0x400 + nearest_even_shifted(significand, 13)
+        (exponent - SMALLEST_NORMAL) * 0x400
+            + channels::nearest_even_shifted(significand, 13) as u32
     } else {
-        nearest_even_shifted(significand, 126 - exponent)
+        channels::nearest_even_shifted(significand, 126 - exponent) as u32
     }
 }
 

@@ -38,9 +38,11 @@ pub decodes : (f max literal w k s : ℕ) → ofBits binary32 literal ≡ ofInt 
 unfolding decoded
 decodes f max literal w k s l m d t = rw (l, m, d, t) refl
 
-pub encodes : (f max n : ℕ) (v : DepthStencil) (c word : ℕ) (l : List ℕ) → bytesOf f ≡ n → maxCode f ≡ max → c ≡ codeFor max (v .depth) → pixelWord f c (v .stencil) ≡ word
-    → sets l 0 (bytes n word) ≡ sets l 0 (encoded f v)
+-- what a buffer holds after the word of a code and a stencil was put at its front
+pub encodes : (f max n : ℕ) (v : DepthStencil) (c : ℕ) (l : List ℕ) {word : ℕ} {after : List ℕ} → after ≡ sets l 0 (bytes n word) → bytesOf f ≡ n → maxCode f ≡ max → c ≡ codeFor max (v .depth)
+    → pixelWord f c (v .stencil) ≡ word → after ≡ sets l 0 (encoded f v)
 unfolding encoded
-encodes f max n v c word l b m e w =
-    ap (sets l 0)
+encodes f max n v c l put b m e w =
+    put
+    ∙ ap (sets l 0)
     (ap₂ bytes (sym b) (sym w) ∙ ap (λ k. bytes (bytesOf f) (pixelWord f k (v .stencil))) (e ∙ ap (λ x. codeFor x (v .depth)) (sym m)))

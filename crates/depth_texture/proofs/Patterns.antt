@@ -11,7 +11,7 @@ use lib.Ieee.Compare.{differs-from-itself}
 use lib.Ieee.Nearest.{closest, closest-same}
 use Rattle.channels.specs.Floats.{clamped, bottom-pos, small-pattern, normal-pattern}
 use Rattle.depth_texture.specs.Depth.{codeFor}
-use Rattle.depth_texture.specs.Rounding.{closest-near}
+use Rattle.channels.specs.Even.{closest-near}
 
 -- nothing
 pub code-zero : (max : ℕ) (x : Float) → clamped x .top ≡ 0 → codeFor max x ≡ 0

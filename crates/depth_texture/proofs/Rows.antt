@@ -1,13 +1,14 @@
--- One pixel of a row: what was decoded from a part of the packed row is stored, and what was loaded is packed. Assumes nothing.
+-- A loop over a row, for any size of a pixel and any content; and one pixel of it: what was decoded from a part of the packed row is stored, and what
+-- was loaded is packed. Assumes nothing.
 use mathlib.Core.Path.{_≡_, refl, sym, ap, ap₂, _∙_, subst}
 use mathlib.Core.Bool.{Bool, true, false, not}
 use mathlib.Core.List.{List, _++_}
 use Prim.Native.Nat.{ℕ, _+_, _-_, _*_, _≤_, _<_}
-use native.Mathlib.Nat.{mul-one, mul-comm, mul-le-mul-right, mod-eq-of-lt, le-trans, le-of-lt}
+use native.Mathlib.Nat.{mul-one, mul-comm, mul-le-mul-right, mod-eq-of-lt, le-trans, le-antisymm, le-of-lt}
 use native.Mathlib.Omega.{arith}
 use lib.Dec.{T}
-use lib.ListN.{length, take, drop, set}
-use lib.Seq.{sets}
+use lib.ListN.{length, take, drop, set, getD}
+use lib.Seq.{sets, length-sets}
 use lib.Ieee.{Float, binary32, toBits, isNan}
 use lib.Ieee.Nearest.{closest}
 use Rattle.words.specs.Little.{bytes, number, length-bytes}
@@ -23,7 +24,32 @@ use Rattle.depth_texture.specs.Restoration.{depth-no-nan}
 use Rattle.depth_texture.specs.Pixels.{formatCode, hasStencil, maxCode, depthCode, decoded, pixelWord, encoded}
 use Rattle.depth_texture.specs.PackedFormats.{sizes, depth-code-le, stencil-lt}
 use Rattle.depth_texture.specs.Planes.{wordAt, depthAt, depthBytes, stencilBytes, stencilAt, packedBytes, depthRow, stencilRow, packedRow}
-use Rattle.depth_texture.specs.Pictures.{place, writtenRow, written, rows-none, rows-more}
+use Rattle.depth_texture.specs.Pictures.{place, writtenRow, written, RowIn, row-none, row-more, rows-none, rows-more}
+
+-- ---- a loop over a row
+-- before column x: the columns before it hold their content, and the list is as long as it was
+pub record Turn (from size width : ℕ) (content : ℕ → List ℕ) (l₀ l : List ℕ) (x : ℕ) : Type 0 where
+  pub columns : l ≡ writtenRow from size x content l₀
+  pub long : length l ≡ length l₀
+  pub within : x ≤ width
+
+pub first-turn : {from size width : ℕ} {content : ℕ → List ℕ} {l : List ℕ} → Turn from size width content l l 0
+first-turn {from} {size} {width} {content} {l} = record { columns = row-none from size content l; long = refl; within = omega arith }
+
+module _ {from size width : ℕ} {content : ℕ → List ℕ} {l₀ l : List ℕ} {x : ℕ} (t : Turn from size width content l₀ l x) where
+  -- this column's bytes are there
+  pub column-in : x < width → RowIn (length l₀) from size width → from + x * size + size ≤ length l
+  column-in h room = omega (arith, room x h, t .long)
+
+  pub next-turn : {l′ : List ℕ} → x < width → l′ ≡ sets l (from + x * size) (content x) → Turn from size width content l₀ l′ (x + 1)
+  next-turn {l′} h e = record {
+    columns = row-more from size content x l₀ l l′ (t .columns) e;
+    long = ap length e ∙ length-sets l (from + x * size) (content x) ∙ t .long;
+    within = omega arith;
+  }
+
+  pub last-turn : width ≤ x → l ≡ writtenRow from size width content l₀
+  last-turn h = t .columns ∙ ap (λ n. writtenRow from size n content l₀) (le-antisymm (t .within) h)
 
 -- ---- unpacking
 -- the decoder is lent the part of the row that starts at the pixel
@@ -66,19 +92,21 @@ pub encoded-same : (f : ℕ) (v w : DepthStencil) → clamped (v .depth) ≡ cla
 unfolding encoded codeFor
 encoded-same f v w e h = ap₂ (λ (q : Fraction) (t : ℕ). bytes (bytesOf f) (pixelWord f (closest (q .top * maxCode f) (q .bottom)) t)) e h
 
-pub pixel-encoded : (f : ℕ) (depth stencil : List ℕ) (d s : ℕ) (r : Float) (t : ℕ) → clamped r ≡ clamped (depthAt depth d) → t ≡ stencilAt f stencil s
-    → encoded f (record { depth = r; stencil = t }) ≡ packedBytes f depth stencil d s
-unfolding packedBytes
-pixel-encoded f depth stencil d s r t e h = encoded-same f (record { depth = r; stencil = t }) (record { depth = depthAt depth d; stencil = stencilAt f stencil s }) e h
+-- without a stencil it counts as 0
+pub no-stencil-read : (f : ℕ) (plane : List ℕ) (at : ℕ) → hasStencil f ≡ false → 0 ≡ stencilAt f plane at
+unfolding stencilAt
+no-stencil-read f plane at e = sym (ap (λ t. pick t (getD plane at 0) 0) e)
 
 -- the encoder is lent the part of the row that starts at the pixel, and it comes back
-pub pixel-stored : (f n : ℕ) (depth stencil packed : List ℕ) (d s to : ℕ) (v : DepthStencil) (w : List ℕ) → bytesOf f ≡ n → to + n ≤ length packed
-    → encoded f v ≡ packedBytes f depth stencil d s → w ≡ sets (take (length packed - to) (drop to packed)) 0 (encoded f v)
+pub pixel-stored : (f n : ℕ) (depth stencil packed : List ℕ) (d s to : ℕ) (r : Float) (t : ℕ) {w : List ℕ} → bytesOf f ≡ n → to + n ≤ length packed
+    → clamped r ≡ clamped (depthAt depth d) → t ≡ stencilAt f stencil s → w ≡ sets (take (length packed - to) (drop to packed)) 0 (encoded f (record { depth = r; stencil = t }))
     → take to packed ++ (w ++ drop (length packed - to) (drop to packed)) ≡ sets packed to (packedBytes f depth stencil d s)
-pixel-stored f n depth stencil packed d s to v w size fits e h =
-    ap (λ w. take to packed ++ (w ++ drop (length packed - to) (drop to packed))) h
+unfolding packedBytes
+pixel-stored f n depth stencil packed d s to r t size fits e h put =
+    let v : DepthStencil = record { depth = r; stencil = t } in
+    ap (λ w. take to packed ++ (w ++ drop (length packed - to) (drop to packed))) put
     ∙ part-back packed to (length packed - to) (encoded f v) refl (omega (arith, encoded-sized f v, size))
-    ∙ ap (sets packed to) e
+    ∙ ap (sets packed to) (encoded-same f v (record { depth = depthAt depth d; stencil = stencilAt f stencil s }) e h)
 
 -- ---- rows of depths: one more
 pub depths-more : (f : ℕ) (packed : List ℕ) (pitch depthPitch width y : ℕ) (l₀ l l′ : List ℕ)

@@ -48,23 +48,23 @@ isEmpty l = eqb (l .width) 0 || eqb (l .height) 0
 unfoldable pub planesFit : PlaneLayout → Bool
 planesFit l = ltb (l .«depth_pitch» * l .height) limit && ltb (l .«stencil_pitch» * l .height) limit
 
--- document 01's number for a layout that cannot be made, the lowest that applies, and 0 where it can
-unfoldable pub layoutRefusal : (width height alignment : ℕ) → ℕ
-layoutRefusal w h a =
-    pick (isEmpty (aligned w h a)) 6
-    (pick (not (isPowerOfTwo (max 4 a))) 7
-    (pick (not (planesFit (aligned w h a))) 8 0))
-
--- what is handed back: four zeros in a refusal
-unfoldable pub layoutFor : (width height alignment : ℕ) → PlaneLayout
-layoutFor w h a = pick (eqb (layoutRefusal w h a) 0) (aligned w h a) (layout 0 0 0 0)
-
 -- document 01's number for each answer
 abbrev pub answerNumber : PlaneLayoutAnswer → ℕ
 answerNumber (Layout l) = 0
 answerNumber ZeroSize = 6
 answerNumber NoPowerOfTwo = 7
 answerNumber Over64Bits = 8
+
+-- document 01's number for a layout that cannot be made, the lowest that applies, and 0 where it can
+unfoldable pub layoutRefusal : (width height alignment : ℕ) → ℕ
+layoutRefusal w h a =
+    pick (isEmpty (aligned w h a)) (answerNumber ZeroSize)
+    (pick (not (isPowerOfTwo (max 4 a))) (answerNumber NoPowerOfTwo)
+    (pick (not (planesFit (aligned w h a))) (answerNumber Over64Bits) 0))
+
+-- what is handed back: four zeros in a refusal
+unfoldable pub layoutFor : (width height alignment : ℕ) → PlaneLayout
+layoutFor w h a = pick (eqb (layoutRefusal w h a) 0) (aligned w h a) (layout 0 0 0 0)
 
 -- the four values that each answer hands back
 abbrev pub answerLayout : PlaneLayoutAnswer → PlaneLayout

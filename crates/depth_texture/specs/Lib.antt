@@ -6,7 +6,6 @@ pub mod Replies
 pub mod Pictures
 pub mod Planes
 pub mod Promises
-pub mod Rounding
 pub mod Restoration
 pub mod PackedFormats
 pub mod Powers

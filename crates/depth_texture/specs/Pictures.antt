@@ -3,17 +3,16 @@
 -- Assumes nothing.
 use mathlib.Core.Path.{_≡_, refl, sym, ap, _∙_, subst}
 use mathlib.Core.List.{List}
-use mathlib.Core.Logic.{_⊎_, inl, inr, ⊎-elim}
-use Prim.Native.Nat.{ℕ, zero, suc, _+_, _-_, _*_, _≤_, _<_}
-use native.Mathlib.Nat.{not-suc-le-zero, mul-le-mul-right, suc-mul, mul-comm}
+use mathlib.Core.Logic.{_⊎_, inl, inr}
+use Prim.Native.Nat.{ℕ, _+_, _-_, _*_, _≤_, _<_}
+use native.Mathlib.Nat.{mul-le-mul-right, mul-comm}
 use native.Mathlib.Omega.{arith}
 use lib.ListN.{length, getD, take, drop}
 use lib.Arith.{lt-of-le-ne}
 use lib.Seq.{sets, length-sets}
-use Rattle.words.specs.Tests.{lt-or-eq}
-use Rattle.words.specs.Iterate.{iterate, iterate-zero, iterate-step, iterate-keeps, iterate-length, iterate-same}
+use Rattle.words.specs.Iterate.{iterate, iterate-zero, iterate-step, iterate-keeps, iterate-length, iterate-same, iterate-makes}
 use Rattle.words.specs.Slices.{sets-before, sets-after, sets-read, part-apart}
-use Rattle.channels.specs.Nearest.{split}
+use Rattle.channels.specs.Nearest.{split, step}
 
 -- where pixel (x, y) begins
 abbrev pub place : (pitch size x y : ℕ) → ℕ
@@ -43,10 +42,6 @@ abbrev pub RowsIn : (len pitch size width height : ℕ) → Type 0
 RowsIn len pitch size width height = (y : ℕ) → y < height → RowIn len (y * pitch) size width
 
 -- ---- places
--- a column below another ends where the other begins, or earlier
-step : (j k size : ℕ) → j < k → j * size + size ≤ k * size
-step j k size h = omega (arith, suc-mul j size, mul-le-mul-right {m = suc j} {n = k} size h)
-
 -- two pixels of one row
 pub columns-apart : (from size x x′ : ℕ) → (x′ ≡ x → ⊥) → (from + x * size + size ≤ from + x′ * size) ⊎ (from + x′ * size + size ≤ from + x * size)
 columns-apart from size x x′ ne = elim (split x x′) [
@@ -74,20 +69,6 @@ rows-in len pitch size width height h y yl x xl =
 -- and so does a plane that holds the pitch times the height, where the pitch holds a row
 pub plane-in : (len pitch size width height : ℕ) → width * size ≤ pitch → pitch * height ≤ len → RowsIn len pitch size width height
 plane-in len pitch size width height r h y yl x xl = omega (arith, step x width size xl, step y height pitch yl, mul-comm pitch height)
-
--- ---- a step that makes what all others keep
-makes : {A : Type 0} (I P : A → Type 0) (f : ℕ → A → A) (n m : ℕ) (a : A) → m < n
-    → ((k : ℕ) (b : A) → I b → I (f k b))
-    → ((b : A) → I b → P (f m b))
-    → ((k : ℕ) → k < n → (k ≡ m → ⊥) → (b : A) → P b → P (f k b))
-    → I a → P (iterate f n a)
-unfolding iterate
-makes I P f zero m a lt inv make keep i = absurd (not-suc-le-zero lt)
-makes I P f (suc n) m a lt inv make keep i =
-    ⊎-elim
-    (λ less. keep n (omega arith) (λ e. omega arith) (iterate f n a) (makes I P f n m a less inv make (λ k l. keep k (omega arith)) i))
-    (λ same. subst (λ (k : ℕ). P (f k (iterate f n a))) same (make (iterate f n a) (iterate-keeps I f n (λ k l b p. inv k b p) a i)))
-    (lt-or-eq m n lt)
 
 -- ---- lengths
 pub row-length : (from size width : ℕ) (content : ℕ → List ℕ) (l : List ℕ) → length (writtenRow from size width content l) ≡ length l
@@ -123,7 +104,7 @@ module _ (pitch size width height : ℕ) (content : ℕ → ℕ → List ℕ) (s
     row-own : (b : List ℕ) → length b ≡ len → pixelIn pitch size x y (writtenRow (y * pitch) size width (λ x. content x y) b) ≡ content x y
     unfolding writtenRow
     row-own b e =
-        makes (λ b. length b ≡ len) (λ b. pixelIn pitch size x y b ≡ content x y) (λ x l. sets l (y * pitch + x * size) (content x y)) width x b xl
+        iterate-makes (λ b. length b ≡ len) (λ b. pixelIn pitch size x y b ≡ content x y) (λ x l. sets l (y * pitch + x * size) (content x y)) width x xl
         (λ k b i. length-sets b (y * pitch + k * size) (content k y) ∙ i)
         (λ b i.
         ap (λ n. take n (drop (place pitch size x y) (sets b (place pitch size x y) (content x y)))) (sym (sized x y))
@@ -132,16 +113,16 @@ module _ (pitch size width height : ℕ) (content : ℕ → ℕ → List ℕ) (s
         part-apart b (y * pitch + k * size) (content k y) (place pitch size x y) size
         (subst (λ s. (place pitch size x y + size ≤ y * pitch + k * size) ⊎ (y * pitch + k * size + s ≤ place pitch size x y)) (sym (sized k y)) (columns-apart (y * pitch) size x k ne))
         ∙ p)
-        e
+        b e
 
     pub written-own : (l : List ℕ) → length l ≡ len → pixelIn pitch size x y (written pitch size width height content l) ≡ content x y
     unfolding written
     written-own l e =
-        makes (λ b. length b ≡ len) (λ b. pixelIn pitch size x y b ≡ content x y) (λ y. writtenRow (y * pitch) size width (λ x. content x y)) height y l yl
+        iterate-makes (λ b. length b ≡ len) (λ b. pixelIn pitch size x y b ≡ content x y) (λ y. writtenRow (y * pitch) size width (λ x. content x y)) height y yl
         (λ k b i. row-length (k * pitch) size width (λ x. content x k) b ∙ i)
         row-own
         (λ k kl ne b p. row-keeps k (place pitch size x y) size (content x y) (λ x′ h. rows-apart pitch size width room x y x′ k xl h ne) b p)
-        e
+        l e
 
   pub written-other : (k : ℕ) → NoPixel pitch size width height k → (l : List ℕ) → getD (written pitch size width height content l) k 0 ≡ getD l k 0
   unfolding written writtenRow

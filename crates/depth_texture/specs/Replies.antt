@@ -42,11 +42,11 @@ stencilHolds f l len = pick (hasStencil f) (planeHolds (l .«stencil_pitch») (l
 -- document 01's number for a call that is refused, the lowest that applies, and 0 for one that is accepted; the lengths are those of the packed buffer, the depth plane and the stencil plane
 unfoldable pub refusalOf : ℕ → PlaneLayout → (packed pitch depth stencil : ℕ) → ℕ
 refusalOf f l packed pitch depth stencil =
-    pick (not (isPackedDepth f)) 9
-    (pick (not (stands l)) 10
-    (pick (not (packedHolds f l packed pitch)) 11
-    (pick (not (planeHolds (l .«depth_pitch») (l .height) depth)) 12
-    (pick (not (stencilHolds f l stencil)) 13 0))))
+    pick (not (isPackedDepth f)) (replyNumber NotPackedDepth)
+    (pick (not (stands l)) (replyNumber BadLayout)
+    (pick (not (packedHolds f l packed pitch)) (replyNumber ShortPacked)
+    (pick (not (planeHolds (l .«depth_pitch») (l .height) depth)) (replyNumber ShortDepth)
+    (pick (not (stencilHolds f l stencil)) (replyNumber ShortStencil) 0))))
 
 -- what an accepted call has (Refusals shows it)
 pub record Accepts (f : ℕ) (l : PlaneLayout) (packed pitch depth stencil : ℕ) : Type 0 where

@@ -21,7 +21,7 @@ use lib.Ieee.Scale.{round-val, round-same}
 use Rattle.channels.specs.Nearest.{apart}
 use Rattle.channels.specs.Floats.{clamped, bottom-pos, top-le, below-one, from-one}
 use Rattle.depth_texture.specs.Depth.{depthOf, CodeFor, codeFor}
-use Rattle.depth_texture.specs.Rounding.{Rounds, rounds, closest-even, only-closest, closest-near, closest-le}
+use Rattle.channels.specs.Even.{Rounds, rounds, closest-even, only-closest, closest-near, closest-le}
 
 -- ---- a quotient of whole numbers is one rounding of their fraction
 not-zero : (n : ℕ) (d : ℤ) (b : ℕ) → 0 < b → n * up d * 1 ≡ b * down d → n ≡ 0 → ⊥

@@ -3,6 +3,7 @@
 // over 64 bits, a code of no packed depth format, pitches below a row, and buffers that are too short. specs/ has the codes (Depth), the pixels (Pixels),
 // the layouts (Layouts), the refusals (Replies), what the two calls write (Planes) and what they promise (Promises).
 // Ported from depth_texture.rs of athei/mtld3d (an altered version, see NOTICE).
+use channels::nearest_even_shifted;
 use formats::D3DFMT_D16;
 use formats::D3DFMT_D24S8;
 use formats::D3DFMT_D24X8;
@@ -13,12 +14,11 @@ use words::put32;
 ghost use mathlib.Core.Path.{_≡_};
 ghost use mathlib.Core.Bool.{true, not};
 ghost use mathlib.Core.List.{[]};
-ghost use Prim.Native.Nat.{_+_, _*_, _-_, _^_, _≤_, _<_, max};
+ghost use Prim.Native.Nat.{_+_, _*_, _-_, _≤_, _<_, max};
 ghost use lib.ListN.{length};
 ghost use lib.Seq.{sets};
 ghost use lib.Dec.{T, leb, eqb};
 ghost use lib.Ieee.{binary32, ofBits, toBits, isNan};
-ghost use lib.Ieee.Nearest.{closest};
 ghost use Rattle.words.specs.Little.{bytes};
 ghost use Rattle.formats.specs.Codes as codes;
 ghost use Rattle.formats.specs.Table.{bytesOf};
@@ -146,15 +146,6 @@ fn decode_d24s8(pixel: &[u8]) -> DepthStencil
     }
 }
 
-// n / 2^s to the nearest whole number, a tie to the even one: a half is added, less one where the quotient is even.
-fn nearest_even_shifted(n: u64, s: u32) -> u64
-    requires { ⌜ (n < 4611686018427387904) × (0 < s) × (s < 62) ⌝ }
-    ensures { λ r. ⌜ r ≡ closest n (2 ^ s) ⌝ }
-{
-    let half = 1u64 << (s - 1);
-    (n + (half - 1) + (n >> s) % 2) >> s
-}
-
 // The code of the depth with these bits, where max is the largest code: any pattern will do.
 fn code_of_bits(max: u64, bits: u32) -> u64
     requires { ⌜ max < 16777216 ⌝ }
@@ -214,13 +205,15 @@ fn encode_d24x8(value: DepthStencil, pixel: &mut [u8])
     put32(pixel, code_of(16777215, value.depth) as u32);
 }
 
-// D24S8: the code above the stencil byte.
+// D24S8: the stencil byte, and above it the code's bytes from the lowest one on.
 fn encode_d24s8(value: DepthStencil, pixel: &mut [u8])
     requires { ⌜ (4 ≤ length (now pixel)) × T (not (isNan (value .depth))) ⌝ }
     ensures { λ _. ⌜ now (pixel .exit) ≡ sets (now (pixel .entry)) 0 (encoded codes.D24S8 value) ⌝ }
 {
     let code = code_of(16777215, value.depth) as u32;
-    put32(pixel, code * 0x100 + (value.stencil as u32));
+    let lowest = code % 0x100;
+    let stencil = value.stencil as u32;
+    put32(pixel, code / 0x100 * 0x1_0000 + lowest * 0x100 + stencil);
 }
 
 // A depth's four bytes, at byte `at` of a depth plane.

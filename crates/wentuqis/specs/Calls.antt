@@ -5,12 +5,7 @@ use Prim.Native.Nat.{ℕ}
 use lib.ListN.{getD}
 use Rattle.pixel_convert.specs.declared.ConvertRegion.{ConvertRegion}
 use Rattle.planar_yuv.specs.Answers.{Reply}
-use Rattle.convert.specs.declared.FillReply.{FillReply}
-use Rattle.convert.specs.Fill as fill
 use Rattle.depth_texture.specs.declared.PlaneLayout.{PlaneLayout}
-use Rattle.depth_texture.specs.declared.DepthReply.{DepthReply}
-use Rattle.depth_texture.specs.Layouts.{layout}
-use Rattle.depth_texture.specs.Replies as depth
 use Rattle.stretch_rect.specs.declared.Rgb.{Rgb}
 
 -- the region that an exported conversion is given
@@ -41,17 +36,6 @@ colourIn l = record { r = getD l 0 0; g = getD l 1 0; b = getD l 2 0 }
 abbrev pub planarValues : Reply → List ℕ
 planarValues r = r .pitch ∷ r .luma-rows ∷ r .chroma-rows ∷ r .total-bytes ∷ []
 
--- the plane layout that an exported unpacking or packing is given
-abbrev pub planesOf : (width height depth-pitch stencil-pitch : ℕ) → PlaneLayout
-planesOf = layout
-
 -- width, height, depth pitch and stencil pitch of a plane layout
 abbrev pub planeValues : PlaneLayout → List ℕ
 planeValues l = l .width ∷ l .height ∷ l .«depth_pitch» ∷ l .«stencil_pitch» ∷ []
-
--- document 01's numbers of a fill's and of a depth call's replies
-abbrev pub fillNumber : FillReply → ℕ
-fillNumber = fill.replyNumber
-
-abbrev pub depthNumber : DepthReply → ℕ
-depthNumber = depth.replyNumber

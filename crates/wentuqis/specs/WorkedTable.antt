@@ -29,7 +29,7 @@ use Rattle.convert.specs.Fill as fill
 use Rattle.convert.specs.Fill.{fillOf}
 use Rattle.depth_texture.specs.Depth as depth
 use Rattle.depth_texture.specs.Layouts as layouts
-use Rattle.depth_texture.specs.Layouts.{layoutRefusal, layoutFor}
+use Rattle.depth_texture.specs.Layouts.{layout, layoutRefusal, layoutFor}
 use Rattle.depth_texture.specs.Pixels as pixels
 use Rattle.depth_texture.specs.Replies as replies
 use Rattle.depth_texture.specs.Pictures as pictures
@@ -41,7 +41,7 @@ use Rattle.planar_yuv.specs.Offsets as offsets
 use Rattle.planar_yuv.specs.Answers as answers
 use Rattle.planar_yuv.specs.Offsets.{uOffset, vOffset}
 use Rattle.planar_yuv.specs.Answers.{fromWidth}
-use Rattle.wentuqis.specs.Calls.{regionOf, planesOf, rgbList, planarValues, planeValues}
+use Rattle.wentuqis.specs.Calls.{regionOf, rgbList, planarValues, planeValues}
 
 -- a row: the numbers that document 01 prints or means, and the same numbers computed
 pub record Row : Type 0 where
@@ -76,7 +76,7 @@ fourOf n r g b a = bytes n r ++ (bytes n g ++ (bytes n b ++ bytes n a))
 
 -- the depth's code after a picture of one pixel, whose depth is 0.5 and whose stencil is 0, is packed into n zeros
 abbrev packedHalf : (f n : ℕ) → ℕ
-packedHalf f n = depthCode f (number (packedBuffer f (planesOf 1 1 4 1) (bytes 4 half) (0 ∷ []) (bytes n 0) n))
+packedHalf f n = depthCode f (number (packedBuffer f (layout 1 1 4 1) (bytes 4 half) (0 ∷ []) (bytes n 0) n))
 
 -- the reply to the conversion of one YUY2 texel from a row of n bytes
 abbrev loneYuy2 : (n : ℕ) → ℕ

@@ -12,13 +12,15 @@ ghost use Rattle.formats.specs.Table.{bytesOf};
 ghost use Rattle.formats.specs.Lanes.{red, green, blue, alpha};
 ghost use Rattle.convert.specs.Half.{halfOf, HalfOf};
 ghost use Rattle.convert.specs.Color.{byteOf, unormOf};
+ghost use Rattle.convert.specs.Fill as fills;
 ghost use Rattle.convert.specs.Fill.{fillOf};
 ghost use Rattle.convert.specs.Splat.{Splat};
-ghost use Rattle.depth_texture.specs.Layouts.{layoutRefusal, layoutFor, answerNumber, answerLayout};
+ghost use Rattle.depth_texture.specs.Layouts.{layout, layoutRefusal, layoutFor, answerNumber, answerLayout};
+ghost use Rattle.depth_texture.specs.Replies as depths;
 ghost use Rattle.depth_texture.specs.Replies.{refusalOf};
 ghost use Rattle.depth_texture.specs.Planes.{unpackedDepth, unpackedStencil, packedBuffer};
 ghost use Rattle.depth_texture.specs.Promises.{firstRefusal, KeepsAll, Restores, SamePixels, PlanesKept, SameElsewhere, NearestCodes};
-ghost use Rattle.wentuqis.specs.Calls.{regionOf, planesOf, rgbList, colourIn, planarValues, planeValues, fillNumber, depthNumber};
+ghost use Rattle.wentuqis.specs.Calls.{regionOf, rgbList, colourIn, planarValues, planeValues};
 use convert::FillReply;
 use depth_texture::DepthReply;
 use depth_texture::PlaneLayout;
@@ -164,7 +166,7 @@ pub extern "C" fn wentuqis_planar_yuv_layout_from_pitch(
 // ---- fills
 
 fn fill_number(reply: FillReply) -> u32
-    ensures { λ r. ⌜ r ≡ fillNumber reply ⌝ }
+    ensures { λ r. ⌜ r ≡ fills.replyNumber reply ⌝ }
 {
     match reply {
         FillReply::Filled => 0,
@@ -263,7 +265,7 @@ pub extern "C" fn wentuqis_plane_layout(
 }
 
 fn depth_number(reply: DepthReply) -> u32
-    ensures { λ r. ⌜ r ≡ depthNumber reply ⌝ }
+    ensures { λ r. ⌜ r ≡ depths.replyNumber reply ⌝ }
 {
     match reply {
         DepthReply::Accepted => 0,
@@ -288,10 +290,10 @@ pub extern "C" fn wentuqis_unpack(
     depth: &mut [u8],
     stencil: &mut [u8],
 ) -> u32
-    ensures reply { λ r. ⌜ r ≡ refusalOf format (planesOf width height «depth_pitch» «stencil_pitch») (length (now (packed .entry))) «packed_pitch» (length (now (depth .entry))) (length (now (stencil .entry))) ⌝ }
-    ensures planes { λ _. ⌜ (now (depth .exit) ≡ unpackedDepth format (planesOf width height «depth_pitch» «stencil_pitch») (now (packed .entry)) «packed_pitch» (now (depth .entry)) (now (stencil .entry))) × (now (stencil .exit) ≡ unpackedStencil format (planesOf width height «depth_pitch» «stencil_pitch») (now (packed .entry)) «packed_pitch» (now (depth .entry)) (now (stencil .entry))) ⌝ }
-    ensures restores { λ r. ⌜ (r ≡ 0 → KeepsAll format → Restores format (planesOf width height «depth_pitch» «stencil_pitch») (now (packed .entry)) «packed_pitch» (now (depth .exit)) (now (stencil .exit))) ⌝ }
-    ensures kept { λ _. ⌜ PlanesKept format (planesOf width height «depth_pitch» «stencil_pitch») (now (depth .entry)) (now (depth .exit)) (now (stencil .entry)) (now (stencil .exit)) ⌝ }
+    ensures reply { λ r. ⌜ r ≡ refusalOf format (layout width height «depth_pitch» «stencil_pitch») (length (now (packed .entry))) «packed_pitch» (length (now (depth .entry))) (length (now (stencil .entry))) ⌝ }
+    ensures planes { λ _. ⌜ (now (depth .exit) ≡ unpackedDepth format (layout width height «depth_pitch» «stencil_pitch») (now (packed .entry)) «packed_pitch» (now (depth .entry)) (now (stencil .entry))) × (now (stencil .exit) ≡ unpackedStencil format (layout width height «depth_pitch» «stencil_pitch») (now (packed .entry)) «packed_pitch» (now (depth .entry)) (now (stencil .entry))) ⌝ }
+    ensures restores { λ r. ⌜ (r ≡ 0 → KeepsAll format → Restores format (layout width height «depth_pitch» «stencil_pitch») (now (packed .entry)) «packed_pitch» (now (depth .exit)) (now (stencil .exit))) ⌝ }
+    ensures kept { λ _. ⌜ PlanesKept format (layout width height «depth_pitch» «stencil_pitch») (now (depth .entry)) (now (depth .exit)) (now (stencil .entry)) (now (stencil .exit)) ⌝ }
 {
     let layout = PlaneLayout {
         width,
@@ -315,9 +317,9 @@ pub extern "C" fn wentuqis_pack(
     packed: &mut [u8],
     packed_pitch: usize,
 ) -> u32
-    ensures reply { λ r. ⌜ r ≡ refusalOf format (planesOf width height «depth_pitch» «stencil_pitch») (length (now (packed .entry))) «packed_pitch» (length (now (depth .entry))) (length (now (stencil .entry))) ⌝ }
-    ensures bytes { λ _. ⌜ now (packed .exit) ≡ packedBuffer format (planesOf width height «depth_pitch» «stencil_pitch») (now (depth .entry)) (now (stencil .entry)) (now (packed .entry)) «packed_pitch» ⌝ }
-    ensures nearest { λ r. ⌜ (r ≡ 0 → NearestCodes format (planesOf width height «depth_pitch» «stencil_pitch») (now (depth .entry)) (now (packed .exit)) «packed_pitch») ⌝ }
+    ensures reply { λ r. ⌜ r ≡ refusalOf format (layout width height «depth_pitch» «stencil_pitch») (length (now (packed .entry))) «packed_pitch» (length (now (depth .entry))) (length (now (stencil .entry))) ⌝ }
+    ensures bytes { λ _. ⌜ now (packed .exit) ≡ packedBuffer format (layout width height «depth_pitch» «stencil_pitch») (now (depth .entry)) (now (stencil .entry)) (now (packed .entry)) «packed_pitch» ⌝ }
+    ensures nearest { λ r. ⌜ (r ≡ 0 → NearestCodes format (layout width height «depth_pitch» «stencil_pitch») (now (depth .entry)) (now (packed .exit)) «packed_pitch») ⌝ }
     ensures kept { λ _. ⌜ SameElsewhere «packed_pitch» (bytesOf format) width height (now (packed .entry)) (now (packed .exit)) ⌝ }
 {
     let layout = PlaneLayout {
@@ -345,8 +347,8 @@ fn unpack_and_pack(
     out: &mut [u8],
     out_pitch: usize,
 ) -> u32
-    ensures reply { λ r. ⌜ r ≡ firstRefusal (refusalOf format (planesOf width height «depth_pitch» «stencil_pitch») (length (now (packed .entry))) «packed_pitch» (length (now (depth .entry))) (length (now (stencil .entry)))) (refusalOf format (planesOf width height «depth_pitch» «stencil_pitch») (length (now (out .entry))) «out_pitch» (length (now (depth .entry))) (length (now (stencil .entry)))) ⌝ }
-    ensures restores { λ r. ⌜ (r ≡ 0 → KeepsAll format → SamePixels format (planesOf width height «depth_pitch» «stencil_pitch») (now (packed .entry)) «packed_pitch» (now (out .exit)) «out_pitch») ⌝ }
+    ensures reply { λ r. ⌜ r ≡ firstRefusal (refusalOf format (layout width height «depth_pitch» «stencil_pitch») (length (now (packed .entry))) «packed_pitch» (length (now (depth .entry))) (length (now (stencil .entry)))) (refusalOf format (layout width height «depth_pitch» «stencil_pitch») (length (now (out .entry))) «out_pitch» (length (now (depth .entry))) (length (now (stencil .entry)))) ⌝ }
+    ensures restores { λ r. ⌜ (r ≡ 0 → KeepsAll format → SamePixels format (layout width height «depth_pitch» «stencil_pitch») (now (packed .entry)) «packed_pitch» (now (out .exit)) «out_pitch») ⌝ }
 {
     let unpacked = wentuqis_unpack(
         format,

@@ -1,12 +1,11 @@
 -- `channels::f32_to_unorm8` meets its contract: below 2 ^ -9 the byte is 0, and from there on it is the significand times 255 over a power of two. Assumes nothing.
-use mathlib.Core.Path.{_≡_, refl, sym, ap, _∙_}
+use mathlib.Core.Path.{_≡_, sym, ap, _∙_}
 use Prim.Native.Nat.{ℕ, _+_, _-_, _*_, _/_, _%_, _^_, _≤_, _<_}
-use native.Mathlib.Nat.{mul-assoc, mul-comm, mul-left-comm, mul-le-mul-left}
+use native.Mathlib.Nat.{mul-assoc, mul-le-mul-left}
 use native.Mathlib.Omega.{arith}
 use lib.Pow.{pow-pos}
-use lib.Ieee.{Float, binary32, ofBits}
+use lib.Ieee.{binary32, ofBits}
 use borrow.Author.Needs.{needs}
-use Rattle.channels.specs.Fractions.{Fraction}
 use Rattle.channels.specs.Nearest.{rounded, rounded-none, rounded-whole, rounded-same, rounded-le, NearestUp, is-up}
 use Rattle.channels.specs.Floats.{clamped, bottom-pos, top-le, negative-pattern, nan-pattern, high-pattern, small-pattern, normal-pattern}
 use Rattle.channels.proofs.f32_to_unorm8.Statement.{statement}

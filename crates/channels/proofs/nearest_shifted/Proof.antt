@@ -1,17 +1,14 @@
 -- `channels::nearest_shifted` meets its contract: 2 ^ s is below 2 ^ 64, so nothing is shifted out, and twice 2 ^ s is 2 ^ (s + 1). Assumes nothing.
-use mathlib.Core.Path.{_≡_, sym, ap, _∙_}
+use mathlib.Core.Path.{_≡_, ap, _∙_}
 use Prim.Native.Nat.{ℕ, _+_, _*_, _/_, _%_, _^_, _<_}
-use native.Mathlib.Nat.{one-mul, mul-comm, mod-eq-of-lt, lt-trans}
+use native.Mathlib.Nat.{mul-comm}
 use native.Mathlib.Omega.{arith}
-use lib.Dec.{lit<}
 use lib.Pow.{pow-add, pow-lt}
 use borrow.Author.Needs.{needs}
 use Rattle.channels.specs.Nearest.{rounded}
+use Rattle.channels.proofs.Shifts.{one-shifted}
 use Rattle.channels.proofs.nearest_shifted.Statement.{statement}
 use Rattle.channels.proofs.nearest_shifted.Tie as tie
-
-one-shifted : (s : ℕ) → s < 62 → 1 * 2 ^ s % 18446744073709551616 ≡ 2 ^ s
-one-shifted s h = ap (λ (x : ℕ). x % 18446744073709551616) (one-mul (2 ^ s)) ∙ mod-eq-of-lt (lt-trans (pow-lt h) (lit< tt))
 
 mul-result : tie.Need-mul-result
 mul-result c = search needs

@@ -11,6 +11,9 @@ use Rattle.convert.specs.Patterns.{rounded-code}
 use Rattle.convert.proofs.nearest_f16.Statement.{statement}
 use Rattle.convert.proofs.nearest_f16.Tie as tie
 
+cast-significand : tie.Need-cast-significand
+cast-significand c = search needs
+
 add-significand : tie.Need-add-significand
 add-significand c = search needs
 
@@ -31,6 +34,9 @@ subnormal a r h l n e =
 found : (c : tie.After-nearest-even-shifted) → (c .before .before .args .bits / 8388608 - 113) * 1024 + c .nearest-even-shifted .result ≡ codeOf (ofBits binary32 (c .before .before .args .bits))
 found c = normal (c .before .before .args .bits) (c .nearest-even-shifted .result) (c .before .before .pre .0) (c .before .before .pre .1) (c .before .if1 .taken) (c .nearest-even-shifted .ensures)
 
+cast-result : tie.Need-cast-result
+cast-result c = omega (arith, found c, code-small (ofBits binary32 (c .before .before .args .bits)))
+
 add-result : tie.Need-add-result
 add-result c = omega (arith, found c, code-small (ofBits binary32 (c .before .before .args .bits)))
 
@@ -40,21 +46,30 @@ sub-nearest-even-shifted c = search needs
 nearest-even-shifted-requires-2 : tie.Need-nearest-even-shifted-requires-2
 nearest-even-shifted-requires-2 c κs = search needs
 
+found-subnormal : (c : tie.After-nearest-even-shifted2) → c .nearest-even-shifted2 .result ≡ codeOf (ofBits binary32 (c .before .before .args .bits))
+found-subnormal c = subnormal (c .before .before .args .bits) (c .nearest-even-shifted2 .result) (c .before .before .pre .0) (c .before .before .pre .1) (c .before .if1 .left) (c .nearest-even-shifted2 .ensures)
+
+cast-result-2 : tie.Need-cast-result-2
+cast-result-2 c = omega (arith, found-subnormal c, code-small (ofBits binary32 (c .before .before .args .bits)))
+
 returns : tie.Need-returns
 returns c = found c
 
 returns-2 : tie.Need-returns-2
-returns-2 c = subnormal (c .before .before .args .bits) (c .nearest-even-shifted2 .result) (c .before .before .pre .0) (c .before .before .pre .1) (c .before .if1 .left) (c .nearest-even-shifted2 .ensures)
+returns-2 c = found-subnormal c
 
 pub nearest-f16-spec : {M : Type 1} → statement M
 nearest-f16-spec =
     tie.close
     (tie.spec
+    cast-significand
     add-significand
     mul-result
     nearest-even-shifted-requires
+    cast-result
     add-result
     sub-nearest-even-shifted
     nearest-even-shifted-requires-2
+    cast-result-2
     returns
     returns-2)

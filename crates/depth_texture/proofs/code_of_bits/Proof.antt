@@ -1,7 +1,7 @@
 -- `depth_texture::code_of_bits` meets its contract: below 2 ^ -25 the code is 0, and from there on it is the significand times max, over a power of two. Assumes nothing.
 use mathlib.Core.Path.{_≡_, sym, _∙_}
 use mathlib.Core.Logic.{⊎-elim}
-use Prim.Native.Nat.{ℕ, _+_, _-_, _*_, _%_, _≤_, _<_}
+use Prim.Native.Nat.{ℕ, _+_, _*_, _%_, _≤_, _<_}
 use native.Mathlib.Nat.{le-of-lt, mul-le-mul}
 use native.Mathlib.Omega.{arith}
 use lib.Ieee.{binary32, ofBits}

@@ -1,5 +1,4 @@
 -- `depth_texture::encode_d16` meets its contract: the word is the code. Assumes nothing.
-use mathlib.Core.Path.{_∙_}
 use native.Mathlib.Omega.{arith}
 use denote.Ref.{now}
 use Rattle.formats.specs.Codes as codes
@@ -26,7 +25,7 @@ returns : tie.Need-returns
 returns c =
     let g = c .before .before .before .before .before .before .args in
     let code = c .before .before .before .code-of in
-    c .before .before .put16 .ensures ∙ encodes codes.D16 65535 2 (g .value) (code .result) (code .result) (now (g .pixel)) size-d16 max-d16 (code .ensures) (word-d16 (code .result) (g .value .stencil))
+    encodes codes.D16 65535 2 (g .value) (code .result) (now (g .pixel)) (c .before .before .put16 .ensures) size-d16 max-d16 (code .ensures) (word-d16 (code .result) (g .value .stencil))
 
 pub encode-d16-spec : {M : Type 1} → statement M
 encode-d16-spec =

@@ -1,6 +1,6 @@
--- `depth_texture::encode_d24s8` meets its contract: the code stands above the stencil byte. Assumes nothing.
-use mathlib.Core.Path.{_∙_}
-use Prim.Native.Nat.{_+_, _*_, _≤_}
+-- `depth_texture::encode_d24s8` meets its contract: the stencil byte, and above it the code's bytes. Assumes nothing.
+use mathlib.Core.Path.{_≡_, _∙_}
+use Prim.Native.Nat.{ℕ, _+_, _*_, _/_, _%_, _≤_}
 use native.Mathlib.Omega.{arith}
 use denote.Ref.{now}
 use Rattle.formats.specs.Codes as codes
@@ -14,20 +14,30 @@ use Rattle.depth_texture.proofs.encode_d24s8.Tie as tie
 code-le : (c : tie.After-code-of) → c .code-of .result ≤ 16777215
 code-le c = omega (arith, c .code-of .ensures, code-for 16777215 (c .before .before .args .value .depth) .is-code)
 
+-- the rest of the code, its lowest byte, and the stencil
+by-bytes : (c s : ℕ) → c * 256 + s ≡ c / 256 * 65536 + c % 256 * 256 + s
+by-bytes c s = omega arith
+
 code-of-requires : tie.Need-code-of-requires
 code-of-requires c κs = search needs
 
 cast-code : tie.Need-cast-code
 cast-code c = omega (arith, code-le c)
 
-mul-put32 : tie.Need-mul-put32
-mul-put32 c = omega (arith, code-le (c .before))
+cast-stencil : tie.Need-cast-stencil
+cast-stencil c = search needs
 
-cast-put32 : tie.Need-cast-put32
-cast-put32 c = search needs
+mul-put32 : tie.Need-mul-put32
+mul-put32 c = omega (arith, code-le (c .before .before))
+
+mul-put32-2 : tie.Need-mul-put32-2
+mul-put32-2 c = omega (arith, code-le (c .before .before))
 
 add-put32 : tie.Need-add-put32
 add-put32 c = omega (arith, code-le (c .before .before))
+
+add-put32-2 : tie.Need-add-put32-2
+add-put32-2 c = omega (arith, code-le (c .before .before))
 
 put32-requires : tie.Need-put32-requires
 put32-requires c κs = search needs
@@ -39,8 +49,8 @@ returns : tie.Need-returns
 returns c =
     let g = c .before .before .before .before .before .before .before .args in
     let code = c .before .before .before .before .before .code-of in
-    c .before .before .put32 .ensures
-    ∙ encodes codes.D24S8 16777215 4 (g .value) (code .result) (code .result * 256 + g .value .stencil) (now (g .pixel)) size-d24s8 max-d24s8 (code .ensures) (word-d24s8 (code .result) (g .value .stencil))
+    encodes codes.D24S8 16777215 4 (g .value) (code .result) (now (g .pixel)) (c .before .before .put32 .ensures) size-d24s8 max-d24s8 (code .ensures)
+    (word-d24s8 (code .result) (g .value .stencil) ∙ by-bytes (code .result) (g .value .stencil))
 
 pub encode-d24s8-spec : {M : Type 1} → statement M
 encode-d24s8-spec =
@@ -48,9 +58,11 @@ encode-d24s8-spec =
     (tie.spec
     code-of-requires
     cast-code
+    cast-stencil
     mul-put32
-    cast-put32
+    mul-put32-2
     add-put32
+    add-put32-2
     put32-requires
     same-length
     returns)

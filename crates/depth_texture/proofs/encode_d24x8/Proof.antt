@@ -1,5 +1,4 @@
 -- `depth_texture::encode_d24x8` meets its contract: the word is the code, which leaves its unused byte 0. Assumes nothing.
-use mathlib.Core.Path.{_∙_}
 use native.Mathlib.Omega.{arith}
 use denote.Ref.{now}
 use Rattle.formats.specs.Codes as codes
@@ -26,7 +25,7 @@ returns : tie.Need-returns
 returns c =
     let g = c .before .before .before .before .before .before .args in
     let code = c .before .before .before .code-of in
-    c .before .before .put32 .ensures ∙ encodes codes.D24X8 16777215 4 (g .value) (code .result) (code .result) (now (g .pixel)) size-d24x8 max-d24x8 (code .ensures) (word-d24x8 (code .result) (g .value .stencil))
+    encodes codes.D24X8 16777215 4 (g .value) (code .result) (now (g .pixel)) (c .before .before .put32 .ensures) size-d24x8 max-d24x8 (code .ensures) (word-d24x8 (code .result) (g .value .stencil))
 
 pub encode-d24x8-spec : {M : Type 1} → statement M
 encode-d24x8-spec =

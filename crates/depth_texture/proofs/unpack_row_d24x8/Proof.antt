@@ -1,21 +1,19 @@
 -- `depth_texture::unpack_row_d24x8` meets its contract: column by column. Assumes nothing.
-use mathlib.Core.Path.{_≡_, refl, _∙_}
+use mathlib.Core.Path.{_∙_}
 use Prim.Native.Nat.{_+_, _-_, _*_, _≤_}
-use native.Mathlib.Nat.{le-antisymm}
 use native.Mathlib.Omega.{arith}
 use lib.ListN.{length, length-take, length-drop}
 use borrow.Author.Needs.{needs}
 use denote.Ref.{now}
 use Rattle.formats.specs.Codes as codes
 use Rattle.depth_texture.specs.declared.PackedDepth.the-variants.{D24X8}
-use Rattle.depth_texture.specs.Pictures.{writtenRow, row-none, row-more}
 use Rattle.depth_texture.specs.Planes.{depthBytes}
-use Rattle.depth_texture.proofs.Rows.{depth-stored, decoded-no-nan}
+use Rattle.depth_texture.proofs.Rows.{Turn, first-turn, next-turn, last-turn, column-in, depth-stored, decoded-no-nan}
 use Rattle.depth_texture.proofs.unpack_row_d24x8.Statement.{statement}
 use Rattle.depth_texture.proofs.unpack_row_d24x8.Tie as tie
 
 abbrev Inv-loop : tie.InvT-loop
-Inv-loop packed from depth₀ to width x₀ depth x = (depth ≡ writtenRow to 4 x (λ k. depthBytes codes.D24X8 packed (from + k * 4)) depth₀) × (length depth ≡ length depth₀) × (x ≤ width)
+Inv-loop packed from depth₀ to width x₀ depth x = Turn to 4 width (λ k. depthBytes codes.D24X8 packed (from + k * 4)) depth₀ depth x
 
 abbrev μ-loop : tie.MeasureT-loop
 μ-loop packed from depth₀ to width x₀ depth x = width - x
@@ -31,65 +29,21 @@ src-in : (c : In) → start c .args .from + c .before .loop .x * 4 + 4 ≤ lengt
 src-in c = start c .pre .0 (c .before .loop .x) (c .loop-test .taken)
 
 dst-in : (c : In) → start c .args .to + c .before .loop .x * 4 + 4 ≤ length (c .before .loop .depth)
-dst-in c = omega (arith, start c .pre .1 (c .before .loop .x) (c .loop-test .taken), c .before .loop .inv .1)
-
-loop-holds : tie.Need-loop-holds Inv-loop μ-loop
-loop-holds c = (row-none _ _ _ _, refl, search needs)
-
-mul-at : tie.Need-mul-at Inv-loop μ-loop
-mul-at c = omega (arith, src-in c, start c .good .0 .0)
-
-add-at : tie.Need-add-at Inv-loop μ-loop
-add-at c = omega (arith, src-in c, start c .good .0 .0)
-
-sub-decode-d24x8 : tie.Need-sub-decode-d24x8 Inv-loop μ-loop
-sub-decode-d24x8 c = omega (arith, src-in c)
-
-part-decode-d24x8-start : tie.Need-part-decode-d24x8-start Inv-loop μ-loop
-part-decode-d24x8-start c = omega (arith, src-in c)
-
-part-decode-d24x8-end : tie.Need-part-decode-d24x8-end Inv-loop μ-loop
-part-decode-d24x8-end c = omega (arith, src-in c)
-
-decode-d24x8-requires : tie.Need-decode-d24x8-requires Inv-loop μ-loop
-decode-d24x8-requires c κs = simp (length-take, length-drop) (omega (arith, src-in (c .before)))
-
-mul-store-depth : tie.Need-mul-store-depth Inv-loop μ-loop
-mul-store-depth c = omega (arith, dst-in (c .before .before .before), start (c .before .before .before) .good .1 .1 .0 .0)
-
-add-store-depth : tie.Need-add-store-depth Inv-loop μ-loop
-add-store-depth c = omega (arith, dst-in (c .before .before .before), start (c .before .before .before) .good .1 .1 .0 .0)
+dst-in c = column-in (c .before .loop .inv) (c .loop-test .taken) (start c .pre .1)
 
 store-depth-requires : tie.Need-store-depth-requires Inv-loop μ-loop
 store-depth-requires c κs =
     let i = c .before .before .before in
     (dst-in i, decoded-no-nan D24X8 (now (start i .args .packed)) (start i .args .from + i .before .loop .x * 4) _ (c .before .decode-d24x8 .ensures))
 
-add-x : tie.Need-add-x Inv-loop μ-loop
-add-x c = omega (arith, src-in (c .before .before .before .before .before .before), start (c .before .before .before .before .before .before) .good .0 .0)
-
-loop-less : tie.Need-loop-less Inv-loop μ-loop
-loop-less c = search needs
-
 loop-again : tie.Need-loop-again Inv-loop μ-loop
 loop-again c =
     let i = c .before .before .before .before .before .before in
     let g = start i .args in
     let x = i .before .loop .x in
-    let packed = now (g .packed) in
-    let e = c .before .before .store-depth .ensures ∙ depth-stored codes.D24X8 packed (g .from + x * 4) _ (i .before .loop .depth) (g .to + x * 4) (c .before .before .before .before .decode-d24x8 .ensures) in (
-      row-more (g .to) 4 (λ k. depthBytes codes.D24X8 packed (g .from + k * 4)) x (now (g .depth)) (i .before .loop .depth) _ (i .before .loop .inv .0) e,
-      c .before .before .store-depth .kept .0 ∙ i .before .loop .inv .1,
-      omega (arith, i .loop-test .taken),
-    )
-
-same-length : tie.Need-same-length Inv-loop μ-loop
-same-length c = search needs
-
-returns : tie.Need-returns Inv-loop μ-loop
-returns c =
-    let past = le-antisymm (c .before .loop .inv .2) (c .loop-test .left) in
-    c .before .loop .inv .0 ∙ rw past refl
+    next-turn (i .before .loop .inv) (i .loop-test .taken)
+    (c .before .before .store-depth .ensures
+    ∙ depth-stored codes.D24X8 (now (g .packed)) (g .from + x * 4) _ (i .before .loop .depth) (g .to + x * 4) (c .before .before .before .before .decode-d24x8 .ensures))
 
 pub unpack-row-d24x8-spec : {M : Type 1} → statement M
 unpack-row-d24x8-spec =
@@ -97,18 +51,18 @@ unpack-row-d24x8-spec =
     (tie.spec
     Inv-loop
     μ-loop
-    loop-holds
-    mul-at
-    add-at
-    sub-decode-d24x8
-    part-decode-d24x8-start
-    part-decode-d24x8-end
-    decode-d24x8-requires
-    mul-store-depth
-    add-store-depth
+    (λ c. first-turn)
+    (λ c. omega (arith, src-in c, start c .good .0 .0))
+    (λ c. omega (arith, src-in c, start c .good .0 .0))
+    (λ c. omega (arith, src-in c))
+    (λ c. omega (arith, src-in c))
+    (λ c. omega (arith, src-in c))
+    (λ c κs. simp (length-take, length-drop) (omega (arith, src-in (c .before))))
+    (λ c. omega (arith, dst-in (c .before .before .before), start (c .before .before .before) .good .1 .1 .0 .0))
+    (λ c. omega (arith, dst-in (c .before .before .before), start (c .before .before .before) .good .1 .1 .0 .0))
     store-depth-requires
-    add-x
-    loop-less
+    (λ c. omega (arith, src-in (c .before .before .before .before .before .before), start (c .before .before .before .before .before .before) .good .0 .0))
+    (λ c. search needs)
     loop-again
-    same-length
-    returns)
+    (λ c. search needs)
+    (λ c. last-turn (c .before .loop .inv) (c .loop-test .left)))

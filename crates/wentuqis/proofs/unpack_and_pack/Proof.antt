@@ -1,6 +1,6 @@
 -- `wentuqis::unpack_and_pack` meets its contract: by the contracts of the two calls alone. Assumes nothing.
 use denote.Ref.{now}
-use Rattle.wentuqis.specs.Calls.{planesOf}
+use Rattle.depth_texture.specs.Layouts.{layout}
 use Rattle.wentuqis.specs.Viewer.{not-unpacked, packed-back}
 use borrow.Author.Needs.{needs}
 use Rattle.wentuqis.proofs.unpack_and_pack.Statement.{statement}
@@ -19,7 +19,7 @@ returns : tie.Need-returns
 returns c =
     let u = c .before .before .before .before .before .wentuqis-unpack in
     let g = c .before .before .before .before .before .before .before .before .before .before .before .before .args in
-    not-unpacked (g .format) (planesOf (g .width) (g .height) (g .depth-pitch) (g .stencil-pitch)) (now (g .packed)) (g .packed-pitch) (now (g .depth)) (now (g .stencil)) (now (g .out)) (g .out-pitch)
+    not-unpacked (g .format) (layout (g .width) (g .height) (g .depth-pitch) (g .stencil-pitch)) (now (g .packed)) (g .packed-pitch) (now (g .depth)) (now (g .stencil)) (now (g .out)) (g .out-pitch)
     (u .result) _ (u .ensures .0) (c .if1 .taken)
 
 wentuqis-pack-requires : tie.Need-wentuqis-pack-requires
@@ -40,7 +40,7 @@ returns-2 c =
     let u = e .before .before .before .before .before .wentuqis-unpack in
     let g = e .before .before .before .before .before .before .before .before .before .before .before .before .args in
     let p = c .before .before .wentuqis-pack in
-    packed-back (g .format) (planesOf (g .width) (g .height) (g .depth-pitch) (g .stencil-pitch)) (now (g .packed)) (g .packed-pitch) (now (g .depth)) (now (g .stencil)) (now (g .out)) (g .out-pitch)
+    packed-back (g .format) (layout (g .width) (g .height) (g .depth-pitch) (g .stencil-pitch)) (now (g .packed)) (g .packed-pitch) (now (g .depth)) (now (g .stencil)) (now (g .out)) (g .out-pitch)
     (u .result) _ _ (u .ensures .0) (e .if1 .left) (u .ensures .1 .1 .0) (u .kept .1 .1 .1 .1 .1 .1 .1 .0) (u .kept .1 .1 .1 .1 .1 .1 .1 .1 .0) (p .result) _ (p .ensures .0) (p .ensures .1 .0)
 
 pub unpack-and-pack-spec : {M : Type 1} → statement M

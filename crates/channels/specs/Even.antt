@@ -1,18 +1,18 @@
--- A fraction n / d rounded to the nearest whole number, a tie to the even one: `closest` of the logic's library by its remainder, in inequalities,
--- as the one nearest number, and as a shift computes it.
+-- A fraction n / d rounded to the nearest whole number, a tie to the even one: `closest` of the library on IEEE 754 in inequalities, as the one
+-- number that the predicate NearestEven has, and as a shift computes it.
 -- Assumes nothing.
 use mathlib.Core.Path.{_≡_, refl, sym, ap, _∙_, subst}
 use mathlib.Core.Logic.{_⊎_, inl, inr}
 use mathlib.Core.Bool.{not}
 use Prim.Native.Nat.{ℕ, zero, suc, _+_, _-_, _*_, _/_, _%_, _≤_, _<_, compare, Ordering, Ordering·lt, Ordering·eq, Ordering·gt}
-use native.Mathlib.Nat.{le-trans, le-of-eq, lt-irrefl, lt-trans, mod-lt, div-add-mod', suc-mul, mul-le-mul-right}
+use native.Mathlib.Nat.{le-of-eq, lt-irrefl, lt-trans, mod-lt, div-add-mod', suc-mul}
 use native.Mathlib.Numerals.{add-one}
 use native.Mathlib.Omega.{arith}
 use lib.Dec.{T, isLe, isEq, eqb, leb→le, nleb→lt, eqb→eq, eqb-refl}
 use lib.Arith.{lt-of-le-ne, digits-div}
 use lib.Ieee.{nearest}
 use lib.Ieee.Nearest.{closest}
-use Rattle.channels.specs.Nearest.{apart, NearestEven, split, within-half}
+use Rattle.channels.specs.Nearest.{apart, NearestEven, split, step, within-half}
 
 -- ---- what `compare` says
 abbrev Cmp : Ordering → ℕ → ℕ → Type 0
@@ -64,10 +64,6 @@ closest-even n d D =
     let r = rounds n d D in
     within-half (λ j q. j % 2 ≡ 1) n d (closest n d) D (r .below) (r .above)
     (λ j e t. odd-before j (closest n d) e (r .tie-up t)) (λ j e t. odd-after j (closest n d) e (r .tie-down t))
-
--- a number below q lies a step lower at least
-step : (j q d : ℕ) → j < q → j * d + d ≤ q * d
-step j q d h = le-trans (le-of-eq (sym (suc-mul j d))) (mul-le-mul-right d h)
 
 -- two odd numbers at one distance: the number after the lower one lies nearer
 between : (X Y Z n d : ℕ) → 0 < d → Z ≡ X + d → Z + d ≤ Y → apart X n ≡ apart Y n → apart Z n < apart X n
