@@ -12,7 +12,8 @@ use lib.Dec.{T, isLe, isEq, eqb, leb→le, nleb→lt, eqb→eq, eqb-refl}
 use lib.Arith.{lt-of-le-ne, digits-div}
 use lib.Ieee.{nearest}
 use lib.Ieee.Nearest.{closest}
-use Rattle.channels.specs.Nearest.{apart, NearestEven, split, step, within-half}
+use Rattle.channels.specs.Nearest.{apart, NearestEven, step, within-half}
+use Rattle.words.specs.Tests.{split}
 
 -- ---- what `compare` says
 abbrev Cmp : Ordering → ℕ → ℕ → Type 0

@@ -1,12 +1,11 @@
 -- The whole number nearest to a fraction n / d: as a predicate, as the quotient that computes it, and the law that joins the two.
 -- Assumes nothing.
 use mathlib.Core.Path.{_≡_, sym, ap, _∙_, subst}
-use mathlib.Core.Bool.{Bool, true, false, not}
 use mathlib.Core.Logic.{_⊎_, inl, inr}
 use Prim.Native.Nat.{ℕ, suc, _+_, _-_, _*_, _/_, _%_, _≤_, _<_}
 use native.Mathlib.Nat.{le-trans, le-of-eq, le-of-lt, lt-irrefl, suc-mul, mul-comm, mul-assoc, mul-left-comm, mul-right-comm, add-mul, mul-le-mul-right, eq-of-mul-eq-mul-right, div-mul-le-self, lt-div-mul-add, div-div-eq-div-mul, div-eq-of-lt, mul-div-mul-right, mul-add-div-right}
 use native.Mathlib.Omega.{arith}
-use lib.Dec.{T, ltb, ltb→lt, nltb→le}
+use Rattle.words.specs.Tests.{split}
 use lib.Arith.{lt-of-le-ne}
 
 -- how far apart two numbers are
@@ -34,13 +33,6 @@ unfoldable pub rounded : (n d : ℕ) → ℕ
 rounded n d = (2 * n + d) / (2 * d)
 
 -- ---- what lies within half a step is nearest
-pub split : (a b : ℕ) → (a < b) ⊎ (b ≤ a)
-split a b = go (ltb a b) (ltb→lt a b) (nltb→le a b)
-  where
-    go : (t : Bool) → (T t → a < b) → (T (not t) → b ≤ a) → (a < b) ⊎ (b ≤ a)
-    go true h k = inl (h tt)
-    go false h k = inr (k tt)
-
 -- a number below q lies a step lower at least
 pub step : (j q d : ℕ) → j < q → j * d + d ≤ q * d
 step j q d h = le-trans (le-of-eq (sym (suc-mul j d))) (mul-le-mul-right d h)

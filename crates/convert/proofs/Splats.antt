@@ -10,8 +10,7 @@ use lib.ListN.{length, getD, replicate, set, take, drop, length-drop, length-app
 use lib.Seq.{sets, getD-set-same, getD-set-other, take-suc, take-all, getD-take, getD-append-add, length-take-le, length-sets, sets-eq, getD-drop}
 use native.Mathlib.Numerals.{add-one}
 use Rattle.words.specs.Slices.{sets-append, sets-before, sets-inside, part-back, part-read}
-use Rattle.words.specs.Tests.{lt-or-eq}
-use Rattle.channels.specs.Nearest.{split}
+use Rattle.words.specs.Tests.{lt-or-eq, split}
 use Rattle.convert.specs.Splat.{Splat}
 
 -- the bytes below place `at` are the pattern's

@@ -14,8 +14,8 @@ use lib.Ieee.Digits.{size-lt, size-reaches}
 use lib.Ieee.Fits.{down-pos}
 use lib.Ieee.Nearest.{closest}
 use borrow.Author.Tests.{leb-true, leb-false, ltb-true, ltb-false}
-use Rattle.words.specs.Tests.{pick}
-use Rattle.channels.specs.Nearest.{apart, NearestEven, split}
+use Rattle.words.specs.Tests.{pick, split}
+use Rattle.channels.specs.Nearest.{apart, NearestEven}
 use Rattle.channels.specs.Even.{rounds, closest-even}
 use Rattle.convert.specs.Units.{unitsOf, units-fields, units-lt}
 

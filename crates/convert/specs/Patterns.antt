@@ -14,8 +14,7 @@ use lib.Ieee.Exact.{HasValue, odd-sign}
 use lib.Ieee.Fits.{down-pos}
 use lib.Ieee.Nearest.{closest, closest-same, div-same}
 use borrow.Author.Tests.{le-leb, lt-leb, lt-ltb, le-ltb}
-use Rattle.words.specs.Tests.{pick, leb-same}
-use Rattle.channels.specs.Nearest.{split}
+use Rattle.words.specs.Tests.{pick, leb-same, split}
 use Rattle.convert.specs.Units.{unitsAt, unitsOf, units-lt, units-le}
 use Rattle.convert.specs.Half.{overflow, flushed, nearestHalf, magnitudeCode, codeOf}
 

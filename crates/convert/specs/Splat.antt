@@ -7,7 +7,7 @@ use Prim.Native.Nat.{ℕ, _+_, _%_, _≤_, _<_}
 use native.Mathlib.Omega.{arith}
 use lib.ListN.{length, getD}
 use lib.Seq.{ext-getD}
-use Rattle.channels.specs.Nearest.{split}
+use Rattle.words.specs.Tests.{split}
 
 -- byte i is the pattern's byte i mod n, for a pattern of n bytes; an empty one changes nothing
 pub record Splat (pattern before after : List ℕ) : Type 0 where

@@ -7,7 +7,7 @@ use native.Mathlib.Nat.{le-trans, lt-of-lt-of-le, le-of-eq, mod-lt, div-add-mod'
 use native.Mathlib.Omega.{arith}
 use lib.Arith.{digits-div, digits-mod}
 use lib.Pow.{pow-add, pow-pos, pow-mono}
-use Rattle.channels.specs.Nearest.{split}
+use Rattle.words.specs.Tests.{split}
 
 -- an exponent's field e and a fraction t below h: t with the field 0, and else (h + t) × 2^(e - 1)
 abbrev pub unitsAt : (h e t : ℕ) → ℕ

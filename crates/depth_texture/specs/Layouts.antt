@@ -2,10 +2,11 @@
 -- Assumes nothing.
 use mathlib.Core.Path.{_≡_}
 use mathlib.Core.Bool.{Bool, not, _&&_, _||_}
-use Prim.Native.Nat.{ℕ, _+_, _-_, _*_, _/_, _^_, _≤_, _<_, max}
+use Prim.Native.Nat.{ℕ, _*_, _^_, _≤_, _<_, max}
 use lib.Dec.{leb, ltb, eqb}
 use Rattle.words.specs.Tests.{pick}
 use Rattle.words.specs.Iterate.{all}
+use Rattle.words.specs.Multiples.{raised, Raised}
 use Rattle.depth_texture.specs.declared.PlaneLayout.{PlaneLayout}
 use Rattle.depth_texture.specs.declared.PlaneLayoutAnswer.{PlaneLayoutAnswer}
 use Rattle.depth_texture.specs.declared.PlaneLayoutAnswer.the-variants.{Layout, ZeroSize, NoPowerOfTwo, Over64Bits}
@@ -21,16 +22,6 @@ PowerOfTwo a = (k : ℕ) × (a ≡ 2 ^ k)
 -- the same as a test of each k below a (Powers joins the two)
 unfoldable pub isPowerOfTwo : ℕ → Bool
 isPowerOfTwo a = not (all (λ k. not (eqb a (2 ^ k))) a)
-
--- n raised to a multiple of a: the least that is not below n, as Raised says (Powers joins the two)
-unfoldable pub raised : (n a : ℕ) → ℕ
-raised n a = (n + (a - 1)) / a * a
-
--- m is the least multiple of a that is not below n
-pub record Raised (n a m : ℕ) : Type 0 where
-  pub multiple : (k : ℕ) × (m ≡ k * a)
-  pub enough : n ≤ m
-  pub least : (k : ℕ) → n ≤ k * a → m ≤ k * a
 
 -- four numbers as a layout
 abbrev pub layout : (width height depthPitch stencilPitch : ℕ) → PlaneLayout
@@ -82,6 +73,11 @@ pub record Stands (l : PlaneLayout) : Type 0 where
   pub depth-fits : l .«depth_pitch» * l .height < limit
   pub stencil-fits : l .«stencil_pitch» * l .height < limit
 
--- the same as a test (Refusals joins the two)
+-- each pitch is the least multiple of the alignment, or of 4 if that is more, that holds a row
+pub record Pitches (width alignment : ℕ) (l : PlaneLayout) : Type 0 where
+  pub depth : Raised (4 * width) (max 4 alignment) (l .«depth_pitch»)
+  pub stencil : Raised width (max 4 alignment) (l .«stencil_pitch»)
+
+-- a layout that stands as a test (Refusals joins the two)
 unfoldable pub stands : PlaneLayout → Bool
 stands l = not (isEmpty l) && leb (4 * l .width) (l .«depth_pitch») && leb (l .width) (l .«stencil_pitch») && planesFit l

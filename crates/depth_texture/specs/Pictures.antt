@@ -12,7 +12,8 @@ use lib.Arith.{lt-of-le-ne}
 use lib.Seq.{sets, length-sets}
 use Rattle.words.specs.Iterate.{iterate, iterate-zero, iterate-step, iterate-keeps, iterate-length, iterate-same, iterate-makes}
 use Rattle.words.specs.Slices.{sets-before, sets-after, sets-read, part-apart}
-use Rattle.channels.specs.Nearest.{split, step}
+use Rattle.words.specs.Tests.{split}
+use Rattle.channels.specs.Nearest.{step}
 
 -- where pixel (x, y) begins
 abbrev pub place : (pitch size x y : ℕ) → ℕ

@@ -3,8 +3,8 @@
 use mathlib.Core.Path.{_≡_, refl, sym, ap, _∙_, subst}
 use mathlib.Core.Bool.{Bool, true, false, not}
 use mathlib.Core.Logic.{inl, inr}
-use Prim.Native.Nat.{ℕ, zero, suc, _+_, _-_, _*_, _/_, _%_, _^_, _≤_, _<_}
-use native.Mathlib.Nat.{pow-suc, suc-mul, div-mul-le-self, lt-div-mul-add, mul-le-mul-right, div-lt-iff-lt-mul}
+use Prim.Native.Nat.{ℕ, zero, suc, _+_, _*_, _/_, _%_, _^_, _<_}
+use native.Mathlib.Nat.{pow-suc}
 use native.Mathlib.Omega.{arith}
 use lib.Dec.{eqb}
 use lib.Pow.{pow-pos}
@@ -12,8 +12,8 @@ use lib.Arith.{bin-ind}
 use lib.Count.{ones, onesIn, ones-step, ones-cat}
 use borrow.Author.Tests.{eq-eqb, eqb-true, eqb-false, ne-eqb}
 use Rattle.words.specs.Iterate.{all-true, all-false}
-use Rattle.channels.specs.Nearest.{split}
-use Rattle.depth_texture.specs.Layouts.{PowerOfTwo, isPowerOfTwo, raised, Raised}
+use Rattle.words.specs.Tests.{split}
+use Rattle.depth_texture.specs.Layouts.{PowerOfTwo, isPowerOfTwo}
 
 -- ---- the test
 below-power : (k : ℕ) → k < 2 ^ k
@@ -68,22 +68,3 @@ counted a = go (eqb (ones a) 1) refl
 -- THE LAW THAT JOINS THE TEST AND THE PREDICATE, with `power-tested`
 pub tested-power : (a : ℕ) → isPowerOfTwo a ≡ true → PowerOfTwo a
 tested-power a h = counted-power a (eqb-true (ones a) 1 (counted a ∙ h))
-
--- ---- raising
-pub raised-is : (n a : ℕ) → 0 < a → Raised n a (raised n a)
-unfolding raised
-raised-is n a h =
-    let q = (n + (a - 1)) / a in
-    record {
-      multiple = (q, refl);
-      enough = omega (arith, lt-div-mul-add {a = n + (a - 1)} {b = a} h);
-      least = λ k l. mul-le-mul-right a (le-of-lt-suc q k (div-lt-iff-lt-mul h .1 (omega (arith, suc-mul k a))));
-    }
-  where
-    le-of-lt-suc : (q k : ℕ) → q < suc k → q ≤ k
-    le-of-lt-suc q k l = omega arith
-
--- it adds less than a
-pub raised-lt : (n a : ℕ) → 0 < a → raised n a < n + a
-unfolding raised
-raised-lt n a h = omega (arith, div-mul-le-self (n + (a - 1)) a)

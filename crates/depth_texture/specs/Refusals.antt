@@ -10,12 +10,12 @@ use borrow.Author.Tests.{ltb-true, lt-ltb, le-leb, leb-true, eqb-false, eq-eqb, 
 use Rattle.words.specs.Tests.{pick, and-left, and-right, leb-same}
 use Rattle.depth_texture.specs.declared.PlaneLayout.{PlaneLayout}
 use Rattle.formats.specs.Table.{bytesOf}
+use Rattle.words.specs.Multiples.{raised, Raised, raised-is}
 use Rattle.depth_texture.specs.Pixels.{isPackedDepth, hasStencil}
 use Rattle.depth_texture.specs.Pictures.{RowIn, rows-in, plane-in}
 use Rattle.depth_texture.specs.declared.PlaneLayoutAnswer.{PlaneLayoutAnswer}
 use Rattle.depth_texture.specs.declared.PlaneLayoutAnswer.the-variants.{Layout, ZeroSize, NoPowerOfTwo, Over64Bits}
-use Rattle.depth_texture.specs.Layouts.{limit, layout, aligned, raised, isPowerOfTwo, isEmpty, planesFit, layoutRefusal, layoutFor, answerNumber, answerLayout, Stands, stands}
-use Rattle.depth_texture.specs.Powers.{raised-is}
+use Rattle.depth_texture.specs.Layouts.{limit, layout, aligned, isPowerOfTwo, isEmpty, planesFit, layoutRefusal, layoutFor, answerNumber, answerLayout, Stands, stands, Pitches}
 use Rattle.depth_texture.specs.Replies.{rowBytes, packedHolds, planeHolds, stencilHolds, refusalOf, Accepts}
 
 -- ---- a layout that stands
@@ -80,7 +80,7 @@ not-standing l k = stands-is l false (λ e. let z : _≡_ {A = ℕ} 0 1 = cc in 
 -- ---- a layout that is asked for
 -- what `PlaneLayout::new` owes of its answer
 abbrev pub Answered : (width height alignment : ℕ) → PlaneLayoutAnswer → Type 0
-Answered w h a r = (answerNumber r ≡ layoutRefusal w h a) × ((answerLayout r ≡ layoutFor w h a) × (answerNumber r ≡ 0 → Stands (answerLayout r)))
+Answered w h a r = (answerNumber r ≡ layoutRefusal w h a) × ((answerLayout r ≡ layoutFor w h a) × ((answerNumber r ≡ 0 → Stands (answerLayout r)) × (answerNumber r ≡ 0 → Pitches w a (answerLayout r))))
 
 -- a refusal is a number above 0 with four zeros
 refused : (w h a : ℕ) (r : PlaneLayoutAnswer) → answerNumber r ≡ layoutRefusal w h a → 0 < answerNumber r → answerLayout r ≡ layout 0 0 0 0 → Answered w h a r
@@ -89,7 +89,7 @@ refused w h a r e p z = (
   e,
   (
     z ∙ sym (ap (λ t. pick t (aligned w h a) (layout 0 0 0 0)) (ap (λ n. eqb n 0) (sym e) ∙ ne-eqb (answerNumber r) 0 (λ q. omega arith))),
-    λ q. absurd (omega arith),
+    (λ q. absurd (omega arith), λ q. absurd (omega arith)),
   ),
 )
 
@@ -144,14 +144,20 @@ module _ (w h a : ℕ) where
               sym z,
               (
                 sym (ap (λ n. pick (eqb n 0) (aligned w h a) (layout 0 0 0 0)) z ∙ is-aligned),
-                λ q. record {
-                  wide = omega (arith, wide);
-                  high = omega (arith, high);
-                  depth-row = omega (arith, depth-is, raised-is (w * 4) (max 4 a) unit .enough);
-                  stencil-row = omega (arith, stencil-is, raised-is w (max 4 a) unit .enough);
-                  depth-fits = omega (arith, leb-true (d * h) 18446744073709551615 e);
-                  stencil-fits = omega (arith, leb-true (s * h) 18446744073709551615 f);
-                },
+                (
+                  λ q. record {
+                    wide = omega (arith, wide);
+                    high = omega (arith, high);
+                    depth-row = omega (arith, depth-is, raised-is (w * 4) (max 4 a) unit .enough);
+                    stencil-row = omega (arith, stencil-is, raised-is w (max 4 a) unit .enough);
+                    depth-fits = omega (arith, leb-true (d * h) 18446744073709551615 e);
+                    stencil-fits = omega (arith, leb-true (s * h) 18446744073709551615 f);
+                  },
+                  λ q. record {
+                    depth = subst (Raised (4 * w) (max 4 a)) (sym (depth-is ∙ ap (λ n. raised n (max 4 a)) (mul-comm w 4))) (raised-is (4 * w) (max 4 a) unit);
+                    stencil = subst (Raised w (max 4 a)) (sym stencil-is) (raised-is w (max 4 a) unit);
+                  },
+                ),
               ),
             )
 

@@ -22,10 +22,11 @@ ghost use lib.Ieee.{binary32, ofBits, toBits, isNan};
 ghost use Rattle.words.specs.Little.{bytes};
 ghost use Rattle.formats.specs.Codes as codes;
 ghost use Rattle.formats.specs.Table.{bytesOf};
+ghost use Rattle.words.specs.Multiples.{raised};
 ghost use Rattle.channels.specs.Floats.{clamped};
 ghost use Rattle.depth_texture.specs.Depth.{codeFor};
 ghost use Rattle.depth_texture.specs.Pixels.{formatCode, StandsFor, hasStencil, decoded, encoded};
-ghost use Rattle.depth_texture.specs.Layouts.{limit, isPowerOfTwo, raised, answerNumber, answerLayout, layoutRefusal, layoutFor, Stands, stands};
+ghost use Rattle.depth_texture.specs.Layouts.{limit, isPowerOfTwo, answerNumber, answerLayout, layoutRefusal, layoutFor, Stands, stands, Pitches};
 ghost use Rattle.depth_texture.specs.Replies.{replyNumber, refusalOf, Accepts, Checked, packedHolds, stencilHolds};
 ghost use Rattle.depth_texture.specs.Pictures.{writtenRow, RowIn};
 ghost use Rattle.depth_texture.specs.Planes.{depthAt, wordAt, depthBytes, stencilBytes, packedBytes, depthRow, stencilRow, packedRow, depthPlane, stencilPlane, packedPixels, ifAccepted, unpackedDepth, unpackedStencil, packedBuffer};
@@ -323,6 +324,7 @@ impl PlaneLayout {
         ensures reply { λ r. ⌜ answerNumber r ≡ layoutRefusal width height alignment ⌝ }
         ensures layout { λ r. ⌜ answerLayout r ≡ layoutFor width height alignment ⌝ }
         ensures stands { λ r. ⌜ (answerNumber r ≡ 0 → Stands (answerLayout r)) ⌝ }
+        ensures pitches { λ r. ⌜ (answerNumber r ≡ 0 → Pitches width alignment (answerLayout r)) ⌝ }
     {
         if width == 0 {
             return PlaneLayoutAnswer::ZeroSize;

@@ -2,8 +2,9 @@
 -- Assumes nothing.
 use mathlib.Core.Bool.{Bool, true, false, _||_}
 use mathlib.Core.List.{List, [], _∷_}
-use Prim.Native.Nat.{ℕ, _+_, _*_, _/_}
+use Prim.Native.Nat.{ℕ}
 use lib.Dec.{eqb}
+use Rattle.words.specs.Multiples.{raised}
 use Rattle.formats.specs.Codes.{R8G8B8, A8R8G8B8, X8R8G8B8, R5G6B5, X1R5G5B5, A1R5G5B5, A4R4G4B4, A8, A8B8G8R8, X8B8G8R8, A16B16G16R16, L8, A8L8, A32B32G32R32F, YUY2, UYVY, YV12, NV12}
 
 -- f is one of a list of codes
@@ -39,7 +40,7 @@ isLaneSource f = isConvertibleRgb f || isWideRgba f
 
 -- the width raised to a multiple of 4: the pitch of a row of texels of one byte
 unfoldable pub linearRowPitch : ℕ → ℕ
-linearRowPitch width = (width + 3) / 4 * 4
+linearRowPitch width = raised width 4
 
 -- the largest width and height of a texture
 abbrev pub maxTextureDim : ℕ

@@ -4,6 +4,7 @@
 ghost use mathlib.Core.Path.{_≡_};
 ghost use Prim.Native.Nat.{_≤_};
 ghost use Rattle.formats.specs.Table.{bytesOf};
+ghost use Rattle.words.specs.Multiples.{Raised};
 ghost use Rattle.formats.specs.Classes.{isConvertibleRgb, isPackedYuv, isPlanarYuv, isWideRgba, linearRowPitch};
 
 pub const D3DFMT_R8G8B8: u32 = 20;
@@ -260,10 +261,11 @@ pub fn bytes_per_texel(d3d_format: u32) -> usize
     }
 }
 
-// The pitch of a row of texels of one byte, for a width of 1 to MAX_TEXTURE_DIM.
+// The pitch of a row of texels of one byte, for a width of at most MAX_TEXTURE_DIM: the least multiple of 4 that holds it.
 pub fn linear_row_pitch(width: u32) -> u32
     requires { ⌜ width ≤ 16384 ⌝ }
-    ensures { λ r. ⌜ r ≡ linearRowPitch width ⌝ }
+    ensures is { λ r. ⌜ r ≡ linearRowPitch width ⌝ }
+    ensures raised { λ r. ⌜ Raised width 4 r ⌝ }
 {
     (width + 3) / 4 * 4
 }

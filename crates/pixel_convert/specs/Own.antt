@@ -11,7 +11,7 @@ use Rattle.words.specs.Little.{length-bytes}
 use Rattle.words.specs.Iterate.{iterate-keeps, iterate-length, iterate-makes}
 use Rattle.words.specs.Slices.{sets-before, sets-after, sets-read, part-apart}
 use Rattle.formats.specs.Table.{bytesOf}
-use Rattle.channels.specs.Nearest.{split}
+use Rattle.words.specs.Tests.{split}
 use Rattle.texels.specs.declared.Texel.{Texel}
 use Rattle.pixel_convert.specs.declared.ConvertRegion.{ConvertRegion}
 use Rattle.texels.specs.Texels.{encodedBytes, encodedOf}
@@ -34,10 +34,6 @@ module _ (src : List ℕ) (s d : ℕ) (r : ConvertRegion) where
   slice-length : (z : ℕ) (l : List ℕ) → length (sliceWritten src s d r z l) ≡ length l
   unfolding sliceWritten
   slice-length z l = iterate-length _ (row-length z) (r .height) l
-
-  pub region-length : (l : List ℕ) → length (regionWritten src s d r l) ≡ length l
-  unfolding regionWritten
-  region-length l = iterate-length _ slice-length (r .depth) l
 
   -- ---- bytes of no texel
   written-other : (z row col k v : ℕ) → (ByteOf d r z row col k → ⊥) → (l : List ℕ) → getD l k 0 ≡ v → getD (written src s d r z row col l) k 0 ≡ v

@@ -6,7 +6,7 @@ ghost use mathlib.Core.Bool.{true};
 ghost use Prim.Native.Nat.{_+_, _<_, _/_};
 ghost use lib.Dec.{leb};
 ghost use Rattle.planar_yuv.specs.Offsets.{uOffset, vOffset};
-ghost use Rattle.planar_yuv.specs.Answers.{Legal, TexelOf};
+ghost use Rattle.planar_yuv.specs.Answers.{layoutOf, fromPitch, Legal, TexelOf};
 ghost use Rattle.places.specs.Places.{isPicture, texelStart, layoutPlaces, planarPlaces, placesAt, placesIn, insideAll};
 ghost use Rattle.places.specs.Rooms.{remainingAfter};
 ghost use Rattle.places.specs.Planar.{LayoutFor};
@@ -182,7 +182,8 @@ pub fn inside(
 
 // The layout of a planar source: zeros where it has none.
 pub fn source_layout(d3d_format: u32, pitch: usize, slice_pitch: usize) -> PlanarYuvLayout
-    ensures { λ r. ⌜ LayoutFor «d3d_format» pitch («slice_pitch» / pitch) r ⌝ }
+    ensures is { λ r. ⌜ r ≡ layoutOf (fromPitch «d3d_format» pitch («slice_pitch» / pitch)) ⌝ }
+    ensures places { λ r. ⌜ LayoutFor «d3d_format» pitch («slice_pitch» / pitch) r ⌝ }
 {
     let none = PlanarYuvLayout {
         pitch: 0,

@@ -13,7 +13,7 @@ use Rattle.planar_yuv.specs.declared.PlanarYuvLayout.{PlanarYuvLayout}
 use Rattle.planar_yuv.specs.declared.PlanarYuvAnswer.{PlanarYuvAnswer}
 use Rattle.planar_yuv.specs.declared.PlanarYuvAnswer.the-variants.{Layout, Refused}
 use Rattle.planar_yuv.specs.Rules.{chromaRows, totalBytes, allowed, Allowed, allowed-yes, allowed-no, allowed-is, pitch-holds}
-use Rattle.planar_yuv.specs.Offsets.{Inside, uOffset, vOffset}
+use Rattle.planar_yuv.specs.Offsets.{uOffset, vOffset}
 use Rattle.planar_yuv.specs.Apart.{Planes, planes}
 
 -- document 01's number and the four values handed back
@@ -32,6 +32,10 @@ refusal = record { number = 14; pitch = 0; luma-rows = 0; chroma-rows = 0; total
 abbrev pub replyOf : PlanarYuvAnswer → Reply
 replyOf (Layout l) = record { number = 0; pitch = l .pitch; luma-rows = l .«luma_rows»; chroma-rows = l .«chroma_rows»; total-bytes = l .«total_bytes» }
 replyOf Refused = refusal
+
+-- the layout that four values are
+abbrev pub layoutOf : Reply → PlanarYuvLayout
+layoutOf r = record { pitch = r .pitch; «luma_rows» = r .luma-rows; «chroma_rows» = r .chroma-rows; «total_bytes» = r .total-bytes }
 
 -- 0 and the layout of a pitch and luma rows
 abbrev pub layoutReply : (pitch rows : ℕ) → Reply
@@ -128,14 +132,17 @@ legal {f} {pitch} {rows} {l} a = record {
   total = rw (a .pitch-is, a .rows-are) (a .total-is);
 }
 
-pub texel-of : {f pitch rows : ℕ} {l : PlanarYuvLayout} {x y : ℕ} → Answered f pitch rows l → Inside pitch rows x y → TexelOf l x y
-texel-of a i = record { legal = legal a; column = omega (arith, a .pitch-is, i .0); row = omega (arith, a .rows-are, i .1) }
-
 pub planes-of : (f pitch rows : ℕ) (r : PlanarYuvAnswer) → replyOf r ≡ fromPitch f pitch rows → PlanesOf f r
 planes-of f pitch rows (Layout l) e =
     let a = answered f pitch rows l e in
     planes (l .pitch) (l .«luma_rows») (omega (arith, a .pitch-is, a .rules .pitch-even)) f
 planes-of f pitch rows Refused e = tt
+
+-- the same of the values handed back
+pub planes-given : (f : ℕ) (r : PlanarYuvAnswer) → PlanesOf f r → replyOf r .number ≡ 0
+    → Planes (replyOf r .pitch) (replyOf r .luma-rows) (uOffset f (replyOf r .pitch) (replyOf r .luma-rows)) (vOffset f (replyOf r .pitch) (replyOf r .luma-rows))
+planes-given f (Layout l) p z = p
+planes-given f Refused p z = absurd (omega arith)
 
 -- YV12 frames of even rows are laid out by NV12's rules
 pub yv12-even : (pitch rows : ℕ) → rows % 2 ≡ 0 → fromPitch NV12 pitch rows ≡ fromPitch YV12 pitch rows
@@ -161,3 +168,7 @@ rows-hold f width height (Layout l) e =
     let a = answered f (linearRowPitch width) height l e in
     omega (arith, a .pitch-is, pitch-holds width)
 rows-hold f width height Refused e = tt
+
+pub rows-given : (width : ℕ) (r : PlanarYuvAnswer) → RowsHold width r → replyOf r .number ≡ 0 → width ≤ replyOf r .pitch
+rows-given width (Layout l) p z = p
+rows-given width Refused p z = absurd (omega arith)

@@ -8,6 +8,7 @@ use lib.Dec.{leb, eqb}
 use borrow.Author.Tests.{leb-true, le-leb, eqb-true, eq-eqb}
 use Rattle.words.specs.Tests.{pick, and-left, and-right}
 use Rattle.formats.specs.Codes.{YV12}
+use Rattle.words.specs.Multiples.{raised}
 use Rattle.formats.specs.Classes.{isPlanarYuv, linearRowPitch, maxTextureDim}
 
 -- half the luma rows, rounded up
@@ -84,13 +85,5 @@ allowed-no {f} {pitch} {rows} n = go (allowed f pitch rows) refl
 
 -- ---- a pitch that is made from a width
 pub pitch-holds : (width : ℕ) → width ≤ linearRowPitch width
-unfolding linearRowPitch
+unfolding linearRowPitch raised
 pitch-holds width = omega arith
-
-pub pitch-of-width-even : (width : ℕ) → linearRowPitch width % 2 ≡ 0
-unfolding linearRowPitch
-pitch-of-width-even width = omega arith
-
-pub pitch-of-width-most : (width : ℕ) → width ≤ maxTextureDim → linearRowPitch width ≤ maxTextureDim
-unfolding linearRowPitch
-pitch-of-width-most width h = omega arith

@@ -7,10 +7,25 @@ ghost use Prim.Native.Nat.{_≤_, _%_};
 ghost use lib.ListN.{length, take};
 ghost use lib.Seq.{sets};
 ghost use Rattle.words.specs.Little.{number};
+ghost use Rattle.formats.specs.Codes.{R8G8B8, A8R8G8B8, X8R8G8B8, R5G6B5, X1R5G5B5, A1R5G5B5, A4R4G4B4, A8, A8B8G8R8, X8B8G8R8, A16B16G16R16, L8, A8L8, A32B32G32R32F};
 ghost use Rattle.formats.specs.Table.{bytesOf};
 ghost use Rattle.formats.specs.Classes.{isConvertibleRgb, isLaneSource};
 ghost use Rattle.channels.specs.Expansion.{expanded};
 ghost use Rattle.texels.specs.Texels.{decodedOf, encodedOf, encodedBytes};
+use formats::D3DFMT_A1R5G5B5;
+use formats::D3DFMT_A4R4G4B4;
+use formats::D3DFMT_A8;
+use formats::D3DFMT_A8B8G8R8;
+use formats::D3DFMT_A8L8;
+use formats::D3DFMT_A8R8G8B8;
+use formats::D3DFMT_A16B16G16R16;
+use formats::D3DFMT_A32B32G32R32F;
+use formats::D3DFMT_L8;
+use formats::D3DFMT_R5G6B5;
+use formats::D3DFMT_R8G8B8;
+use formats::D3DFMT_X1R5G5B5;
+use formats::D3DFMT_X8B8G8R8;
+use formats::D3DFMT_X8R8G8B8;
 
 // A texel on its way between two formats: a byte for each channel.
 pub struct Texel {
@@ -30,7 +45,7 @@ fn expand8(v: u32) -> u8
 }
 
 fn decode_r8g8b8(v: u32) -> Texel
-    ensures { λ r. ⌜ (r ≡ decodedOf 20 v) × (r ≡ decodedOf 22 v) ⌝ }
+    ensures { λ r. ⌜ (r ≡ decodedOf R8G8B8 v) × (r ≡ decodedOf X8R8G8B8 v) ⌝ }
 {
     Texel {
         r: expand8(v >> 16),
@@ -41,7 +56,7 @@ fn decode_r8g8b8(v: u32) -> Texel
 }
 
 fn decode_a8r8g8b8(v: u32) -> Texel
-    ensures { λ r. ⌜ r ≡ decodedOf 21 v ⌝ }
+    ensures { λ r. ⌜ r ≡ decodedOf A8R8G8B8 v ⌝ }
 {
     Texel {
         r: expand8(v >> 16),
@@ -52,7 +67,7 @@ fn decode_a8r8g8b8(v: u32) -> Texel
 }
 
 fn decode_r5g6b5(v: u16) -> Texel
-    ensures { λ r. ⌜ r ≡ decodedOf 23 v ⌝ }
+    ensures { λ r. ⌜ r ≡ decodedOf R5G6B5 v ⌝ }
 {
     Texel {
         r: channels::expand5(v >> 11),
@@ -63,7 +78,7 @@ fn decode_r5g6b5(v: u16) -> Texel
 }
 
 fn decode_x1r5g5b5(v: u16) -> Texel
-    ensures { λ r. ⌜ r ≡ decodedOf 24 v ⌝ }
+    ensures { λ r. ⌜ r ≡ decodedOf X1R5G5B5 v ⌝ }
 {
     Texel {
         r: channels::expand5(v >> 10),
@@ -74,7 +89,7 @@ fn decode_x1r5g5b5(v: u16) -> Texel
 }
 
 fn decode_a1r5g5b5(v: u16) -> Texel
-    ensures { λ r. ⌜ r ≡ decodedOf 25 v ⌝ }
+    ensures { λ r. ⌜ r ≡ decodedOf A1R5G5B5 v ⌝ }
 {
     Texel {
         r: channels::expand5(v >> 10),
@@ -85,7 +100,7 @@ fn decode_a1r5g5b5(v: u16) -> Texel
 }
 
 fn decode_a4r4g4b4(v: u16) -> Texel
-    ensures { λ r. ⌜ r ≡ decodedOf 26 v ⌝ }
+    ensures { λ r. ⌜ r ≡ decodedOf A4R4G4B4 v ⌝ }
 {
     Texel {
         r: channels::expand4(v >> 8),
@@ -96,7 +111,7 @@ fn decode_a4r4g4b4(v: u16) -> Texel
 }
 
 fn decode_a8(v: u8) -> Texel
-    ensures { λ r. ⌜ r ≡ decodedOf 28 v ⌝ }
+    ensures { λ r. ⌜ r ≡ decodedOf A8 v ⌝ }
 {
     Texel {
         r: 0,
@@ -107,7 +122,7 @@ fn decode_a8(v: u8) -> Texel
 }
 
 fn decode_a8b8g8r8(v: u32) -> Texel
-    ensures { λ r. ⌜ r ≡ decodedOf 32 v ⌝ }
+    ensures { λ r. ⌜ r ≡ decodedOf A8B8G8R8 v ⌝ }
 {
     Texel {
         r: expand8(v),
@@ -118,7 +133,7 @@ fn decode_a8b8g8r8(v: u32) -> Texel
 }
 
 fn decode_x8b8g8r8(v: u32) -> Texel
-    ensures { λ r. ⌜ r ≡ decodedOf 33 v ⌝ }
+    ensures { λ r. ⌜ r ≡ decodedOf X8B8G8R8 v ⌝ }
 {
     Texel {
         r: expand8(v),
@@ -129,7 +144,7 @@ fn decode_x8b8g8r8(v: u32) -> Texel
 }
 
 fn decode_l8(v: u8) -> Texel
-    ensures { λ r. ⌜ r ≡ decodedOf 50 v ⌝ }
+    ensures { λ r. ⌜ r ≡ decodedOf L8 v ⌝ }
 {
     let l = expand8(v as u32);
     Texel {
@@ -141,7 +156,7 @@ fn decode_l8(v: u8) -> Texel
 }
 
 fn decode_a8l8(v: u16) -> Texel
-    ensures { λ r. ⌜ r ≡ decodedOf 51 v ⌝ }
+    ensures { λ r. ⌜ r ≡ decodedOf A8L8 v ⌝ }
 {
     let l = expand8(v as u32);
     Texel {
@@ -155,7 +170,7 @@ fn decode_a8l8(v: u16) -> Texel
 // Four 16-bit channels, each the nearest byte.
 pub fn decode_a16b16g16r16(px: &[u8]) -> Texel
     requires { ⌜ 8 ≤ length (now px) ⌝ }
-    ensures { λ r. ⌜ r ≡ decodedOf 36 (number (take 8 (now (px .entry)))) ⌝ }
+    ensures { λ r. ⌜ r ≡ decodedOf A16B16G16R16 (number (take 8 (now (px .entry)))) ⌝ }
 {
     Texel {
         r: channels::unorm16_to_unorm8(words::le16(px)),
@@ -168,7 +183,7 @@ pub fn decode_a16b16g16r16(px: &[u8]) -> Texel
 // Four binary32 channels, each the nearest byte, a half up.
 fn decode_a32b32g32r32f(px: &[u8]) -> Texel
     requires { ⌜ 16 ≤ length (now px) ⌝ }
-    ensures { λ r. ⌜ r ≡ decodedOf 116 (number (take 16 (now (px .entry)))) ⌝ }
+    ensures { λ r. ⌜ r ≡ decodedOf A32B32G32R32F (number (take 16 (now (px .entry)))) ⌝ }
 {
     Texel {
         r: channels::f32_to_unorm8(words::le32(px)),
@@ -184,20 +199,20 @@ pub fn decode_pixel(d3d_format: u32, px: &[u8]) -> Texel
     ensures { λ r. ⌜ r ≡ decodedOf «d3d_format» (number (take (bytesOf «d3d_format») (now (px .entry)))) ⌝ }
 {
     match d3d_format {
-        20 => decode_r8g8b8(words::le24(px)),
-        21 => decode_a8r8g8b8(words::le32(px)),
-        22 => decode_r8g8b8(words::le32(px)),
-        23 => decode_r5g6b5(words::le16(px)),
-        24 => decode_x1r5g5b5(words::le16(px)),
-        25 => decode_a1r5g5b5(words::le16(px)),
-        26 => decode_a4r4g4b4(words::le16(px)),
-        28 => decode_a8(words::le8(px)),
-        32 => decode_a8b8g8r8(words::le32(px)),
-        33 => decode_x8b8g8r8(words::le32(px)),
-        36 => decode_a16b16g16r16(px),
-        50 => decode_l8(words::le8(px)),
-        51 => decode_a8l8(words::le16(px)),
-        116 => decode_a32b32g32r32f(px),
+        D3DFMT_R8G8B8 => decode_r8g8b8(words::le24(px)),
+        D3DFMT_A8R8G8B8 => decode_a8r8g8b8(words::le32(px)),
+        D3DFMT_X8R8G8B8 => decode_r8g8b8(words::le32(px)),
+        D3DFMT_R5G6B5 => decode_r5g6b5(words::le16(px)),
+        D3DFMT_X1R5G5B5 => decode_x1r5g5b5(words::le16(px)),
+        D3DFMT_A1R5G5B5 => decode_a1r5g5b5(words::le16(px)),
+        D3DFMT_A4R4G4B4 => decode_a4r4g4b4(words::le16(px)),
+        D3DFMT_A8 => decode_a8(words::le8(px)),
+        D3DFMT_A8B8G8R8 => decode_a8b8g8r8(words::le32(px)),
+        D3DFMT_X8B8G8R8 => decode_x8b8g8r8(words::le32(px)),
+        D3DFMT_A16B16G16R16 => decode_a16b16g16r16(px),
+        D3DFMT_L8 => decode_l8(words::le8(px)),
+        D3DFMT_A8L8 => decode_a8l8(words::le16(px)),
+        D3DFMT_A32B32G32R32F => decode_a32b32g32r32f(px),
         _ => Texel {
             r: 0,
             g: 0,
@@ -210,25 +225,25 @@ pub fn decode_pixel(d3d_format: u32, px: &[u8]) -> Texel
 // ---- encoding: a texel's word, by its format
 
 fn encode_r8g8b8(t: Texel) -> u32
-    ensures { λ r. ⌜ r ≡ encodedOf 20 t ⌝ }
+    ensures { λ r. ⌜ r ≡ encodedOf R8G8B8 t ⌝ }
 {
     (t.r as u32) * 65536 + (t.g as u32) * 256 + (t.b as u32)
 }
 
 pub fn encode_a8r8g8b8(t: Texel) -> u32
-    ensures { λ r. ⌜ r ≡ encodedOf 21 t ⌝ }
+    ensures { λ r. ⌜ r ≡ encodedOf A8R8G8B8 t ⌝ }
 {
     (t.a as u32) * 16777216 + (t.r as u32) * 65536 + (t.g as u32) * 256 + (t.b as u32)
 }
 
 fn encode_x8r8g8b8(t: Texel) -> u32
-    ensures { λ r. ⌜ r ≡ encodedOf 22 t ⌝ }
+    ensures { λ r. ⌜ r ≡ encodedOf X8R8G8B8 t ⌝ }
 {
     255 * 16777216 + (t.r as u32) * 65536 + (t.g as u32) * 256 + (t.b as u32)
 }
 
 fn encode_r5g6b5(t: Texel) -> u16
-    ensures { λ r. ⌜ r ≡ encodedOf 23 t ⌝ }
+    ensures { λ r. ⌜ r ≡ encodedOf R5G6B5 t ⌝ }
 {
     let r5 = channels::truncate5(t.r);
     let g6 = channels::truncate6(t.g);
@@ -237,7 +252,7 @@ fn encode_r5g6b5(t: Texel) -> u16
 }
 
 fn encode_x1r5g5b5(t: Texel) -> u16
-    ensures { λ r. ⌜ r ≡ encodedOf 24 t ⌝ }
+    ensures { λ r. ⌜ r ≡ encodedOf X1R5G5B5 t ⌝ }
 {
     let r5 = channels::truncate5(t.r);
     let g5 = channels::truncate5(t.g);
@@ -246,7 +261,7 @@ fn encode_x1r5g5b5(t: Texel) -> u16
 }
 
 fn encode_a1r5g5b5(t: Texel) -> u16
-    ensures { λ r. ⌜ r ≡ encodedOf 25 t ⌝ }
+    ensures { λ r. ⌜ r ≡ encodedOf A1R5G5B5 t ⌝ }
 {
     let a1 = channels::truncate1(t.a);
     let r5 = channels::truncate5(t.r);
@@ -256,7 +271,7 @@ fn encode_a1r5g5b5(t: Texel) -> u16
 }
 
 fn encode_a4r4g4b4(t: Texel) -> u16
-    ensures { λ r. ⌜ r ≡ encodedOf 26 t ⌝ }
+    ensures { λ r. ⌜ r ≡ encodedOf A4R4G4B4 t ⌝ }
 {
     let a4 = channels::truncate4(t.a);
     let r4 = channels::truncate4(t.r);
@@ -266,31 +281,31 @@ fn encode_a4r4g4b4(t: Texel) -> u16
 }
 
 fn encode_a8(t: Texel) -> u8
-    ensures { λ r. ⌜ r ≡ encodedOf 28 t ⌝ }
+    ensures { λ r. ⌜ r ≡ encodedOf A8 t ⌝ }
 {
     t.a
 }
 
 fn encode_a8b8g8r8(t: Texel) -> u32
-    ensures { λ r. ⌜ r ≡ encodedOf 32 t ⌝ }
+    ensures { λ r. ⌜ r ≡ encodedOf A8B8G8R8 t ⌝ }
 {
     (t.a as u32) * 16777216 + (t.b as u32) * 65536 + (t.g as u32) * 256 + (t.r as u32)
 }
 
 fn encode_x8b8g8r8(t: Texel) -> u32
-    ensures { λ r. ⌜ r ≡ encodedOf 33 t ⌝ }
+    ensures { λ r. ⌜ r ≡ encodedOf X8B8G8R8 t ⌝ }
 {
     255 * 16777216 + (t.b as u32) * 65536 + (t.g as u32) * 256 + (t.r as u32)
 }
 
 fn encode_l8(t: Texel) -> u8
-    ensures { λ r. ⌜ r ≡ encodedOf 50 t ⌝ }
+    ensures { λ r. ⌜ r ≡ encodedOf L8 t ⌝ }
 {
     channels::luminance(t.r, t.g, t.b)
 }
 
 fn encode_a8l8(t: Texel) -> u16
-    ensures { λ r. ⌜ r ≡ encodedOf 51 t ⌝ }
+    ensures { λ r. ⌜ r ≡ encodedOf A8L8 t ⌝ }
 {
     (t.a as u16) * 256 + (channels::luminance(t.r, t.g, t.b) as u16)
 }
@@ -301,18 +316,18 @@ pub fn encode_rgb_pixel(d3d_format: u32, t: Texel, out: &mut [u8])
     ensures { λ _. ⌜ now (out .exit) ≡ sets (now (out .entry)) 0 (encodedBytes «d3d_format» t) ⌝ }
 {
     match d3d_format {
-        20 => words::put24(out, encode_r8g8b8(t)),
-        21 => words::put32(out, encode_a8r8g8b8(t)),
-        22 => words::put32(out, encode_x8r8g8b8(t)),
-        23 => words::put16(out, encode_r5g6b5(t)),
-        24 => words::put16(out, encode_x1r5g5b5(t)),
-        25 => words::put16(out, encode_a1r5g5b5(t)),
-        26 => words::put16(out, encode_a4r4g4b4(t)),
-        28 => words::put8(out, encode_a8(t)),
-        32 => words::put32(out, encode_a8b8g8r8(t)),
-        33 => words::put32(out, encode_x8b8g8r8(t)),
-        50 => words::put8(out, encode_l8(t)),
-        51 => words::put16(out, encode_a8l8(t)),
+        D3DFMT_R8G8B8 => words::put24(out, encode_r8g8b8(t)),
+        D3DFMT_A8R8G8B8 => words::put32(out, encode_a8r8g8b8(t)),
+        D3DFMT_X8R8G8B8 => words::put32(out, encode_x8r8g8b8(t)),
+        D3DFMT_R5G6B5 => words::put16(out, encode_r5g6b5(t)),
+        D3DFMT_X1R5G5B5 => words::put16(out, encode_x1r5g5b5(t)),
+        D3DFMT_A1R5G5B5 => words::put16(out, encode_a1r5g5b5(t)),
+        D3DFMT_A4R4G4B4 => words::put16(out, encode_a4r4g4b4(t)),
+        D3DFMT_A8 => words::put8(out, encode_a8(t)),
+        D3DFMT_A8B8G8R8 => words::put32(out, encode_a8b8g8r8(t)),
+        D3DFMT_X8B8G8R8 => words::put32(out, encode_x8b8g8r8(t)),
+        D3DFMT_L8 => words::put8(out, encode_l8(t)),
+        D3DFMT_A8L8 => words::put16(out, encode_a8l8(t)),
         _ => {}
     }
 }

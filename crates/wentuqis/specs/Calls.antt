@@ -4,8 +4,11 @@ use mathlib.Core.List.{List, [], _∷_}
 use Prim.Native.Nat.{ℕ}
 use lib.ListN.{getD}
 use Rattle.pixel_convert.specs.declared.ConvertRegion.{ConvertRegion}
+use Rattle.planar_yuv.specs.Offsets.{uOffset, vOffset}
+use Rattle.planar_yuv.specs.Apart.{Planes}
 use Rattle.planar_yuv.specs.Answers.{Reply}
 use Rattle.depth_texture.specs.declared.PlaneLayout.{PlaneLayout}
+use Rattle.depth_texture.specs.Layouts.{layout}
 use Rattle.stretch_rect.specs.declared.Rgb.{Rgb}
 
 -- the region that an exported conversion is given
@@ -36,6 +39,14 @@ colourIn l = record { r = getD l 0 0; g = getD l 1 0; b = getD l 2 0 }
 abbrev pub planarValues : Reply → List ℕ
 planarValues r = r .pitch ∷ r .luma-rows ∷ r .chroma-rows ∷ r .total-bytes ∷ []
 
+-- the luma, U and V planes of a layout that was handed back keep apart
+abbrev pub PlanesApart : (f : ℕ) (values : List ℕ) → Type 0
+PlanesApart f l = Planes (getD l 0 0) (getD l 1 0) (uOffset f (getD l 0 0) (getD l 1 0)) (vOffset f (getD l 0 0) (getD l 1 0))
+
 -- width, height, depth pitch and stencil pitch of a plane layout
 abbrev pub planeValues : PlaneLayout → List ℕ
 planeValues l = l .width ∷ l .height ∷ l .«depth_pitch» ∷ l .«stencil_pitch» ∷ []
+
+-- the plane layout that four values are
+abbrev pub planesIn : List ℕ → PlaneLayout
+planesIn l = layout (getD l 0 0) (getD l 1 0) (getD l 2 0) (getD l 3 0)

@@ -28,6 +28,7 @@ use Rattle.convert.specs.Half.{halfOf}
 use Rattle.convert.specs.Fill as fill
 use Rattle.convert.specs.Fill.{fillOf}
 use Rattle.depth_texture.specs.Depth as depth
+use Rattle.words.specs.Multiples as multiples
 use Rattle.depth_texture.specs.Layouts as layouts
 use Rattle.depth_texture.specs.Layouts.{layout, layoutRefusal, layoutFor}
 use Rattle.depth_texture.specs.Pixels as pixels
@@ -126,7 +127,7 @@ workedTable =
 pub worked-table : map (λ (r : Row). r .computed) workedTable ≡ map (λ (r : Row). r .printed) workedTable
 unfolding integers.clampTo
     loops.iterate loops.all
-    classes.isConvertibleRgb classes.isPackedYuv classes.isPlanarYuv classes.isWideRgba classes.linearRowPitch
+    classes.isConvertibleRgb classes.isPackedYuv classes.isPlanarYuv classes.isWideRgba classes.isLaneSource classes.linearRowPitch
     lanes.partsOf lanes.laneOf lanes.bytesOf
     widths.expanded widths.truncated
     bytewise.rounded
@@ -141,7 +142,7 @@ unfolding integers.clampTo
     binary16.nearestHalf binary16.magnitudeCode binary16.halfOf
     fill.wordOf fill.fillOf
     depth.codeFor
-    layouts.isPowerOfTwo layouts.raised layouts.aligned layouts.isEmpty layouts.planesFit layouts.layoutRefusal layouts.layoutFor layouts.stands
+    layouts.isPowerOfTwo multiples.raised layouts.aligned layouts.isEmpty layouts.planesFit layouts.layoutRefusal layouts.layoutFor layouts.stands
     pixels.isPackedDepth pixels.hasStencil pixels.maxCode pixels.depthCode pixels.pixelWord pixels.encoded
     replies.packedHolds replies.stencilHolds replies.refusalOf
     pictures.writtenRow pictures.written

@@ -3,8 +3,8 @@
 // every lent byte as it was, and what is handed back is then zero.
 ghost use mathlib.Core.Path.{_≡_};
 ghost use mathlib.Core.List.{[], _∷_};
-ghost use Prim.Native.Nat.{_<_};
-ghost use lib.ListN.{length};
+ghost use Prim.Native.Nat.{_≤_, _<_};
+ghost use lib.ListN.{length, getD};
 ghost use Rattle.planar_yuv.specs.Answers.{replyOf, fromPitch, fromWidth};
 ghost use Rattle.stretch_rect.specs.Yuv.{bt601, rgbOf, RgbNear, decimalUnit, decimalSlack, redDecimal, greenDecimal, blueDecimal};
 ghost use Rattle.pixel_convert.specs.Regions.{canConvert, canConvertUpdate, convertReply, convertedBytes, replyNumber, NearSource, OthersKept};
@@ -15,12 +15,12 @@ ghost use Rattle.convert.specs.Color.{byteOf, unormOf};
 ghost use Rattle.convert.specs.Fill as fills;
 ghost use Rattle.convert.specs.Fill.{fillOf};
 ghost use Rattle.convert.specs.Splat.{Splat};
-ghost use Rattle.depth_texture.specs.Layouts.{layout, layoutRefusal, layoutFor, answerNumber, answerLayout};
+ghost use Rattle.depth_texture.specs.Layouts.{layout, layoutRefusal, layoutFor, answerNumber, answerLayout, Stands, Pitches};
 ghost use Rattle.depth_texture.specs.Replies as depths;
 ghost use Rattle.depth_texture.specs.Replies.{refusalOf};
 ghost use Rattle.depth_texture.specs.Planes.{unpackedDepth, unpackedStencil, packedBuffer};
 ghost use Rattle.depth_texture.specs.Promises.{firstRefusal, KeepsAll, Restores, SamePixels, PlanesKept, SameElsewhere, NearestCodes};
-ghost use Rattle.wentuqis.specs.Calls.{regionOf, rgbList, colourIn, planarValues, planeValues};
+ghost use Rattle.wentuqis.specs.Calls.{regionOf, rgbList, colourIn, planarValues, PlanesApart, planeValues, planesIn};
 use convert::FillReply;
 use depth_texture::DepthReply;
 use depth_texture::PlaneLayout;
@@ -142,6 +142,8 @@ pub extern "C" fn wentuqis_planar_yuv_layout(
 ) -> u32
     ensures reply { λ r. ⌜ r ≡ fromWidth format width height .number ⌝ }
     ensures values { λ _. ⌜ now (layout .exit) ≡ planarValues (fromWidth format width height) ⌝ }
+    ensures planes { λ r. ⌜ (r ≡ 0 → PlanesApart format (now (layout .exit))) ⌝ }
+    ensures rows { λ r. ⌜ (r ≡ 0 → width ≤ getD (now (layout .exit)) 0 0) ⌝ }
 {
     put_planar(planar_yuv::planar_yuv_layout(format, width, height), layout)
 }
@@ -156,6 +158,7 @@ pub extern "C" fn wentuqis_planar_yuv_layout_from_pitch(
 ) -> u32
     ensures reply { λ r. ⌜ r ≡ fromPitch format pitch «luma_rows» .number ⌝ }
     ensures values { λ _. ⌜ now (layout .exit) ≡ planarValues (fromPitch format pitch «luma_rows») ⌝ }
+    ensures planes { λ r. ⌜ (r ≡ 0 → PlanesApart format (now (layout .exit))) ⌝ }
 {
     put_planar(
         planar_yuv::planar_yuv_layout_from_pitch(format, pitch, luma_rows),
@@ -260,6 +263,8 @@ pub extern "C" fn wentuqis_plane_layout(
 ) -> u32
     ensures reply { λ r. ⌜ r ≡ layoutRefusal width height alignment ⌝ }
     ensures values { λ _. ⌜ now (layout .exit) ≡ planeValues (layoutFor width height alignment) ⌝ }
+    ensures stands { λ r. ⌜ (r ≡ 0 → Stands (planesIn (now (layout .exit)))) ⌝ }
+    ensures pitches { λ r. ⌜ (r ≡ 0 → Pitches width alignment (planesIn (now (layout .exit)))) ⌝ }
 {
     put_planes(PlaneLayout::new(width, height, alignment), layout)
 }

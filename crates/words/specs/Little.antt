@@ -4,10 +4,10 @@ use mathlib.Core.Path.{_≡_, refl, sym, ap, ap₂, _∙_, subst}
 use mathlib.Core.List.{List, [], _∷_, _++_}
 use Prim.Native.Nat.{ℕ, zero, suc, _+_, _*_, _/_, _%_, _^_, _≤_, _<_}
 use native.Mathlib.Omega.{arith}
-use native.Mathlib.Nat.{suc-mul, suc-add, zero-add, add-zero, add-comm, mul-assoc, mul-comm, mod-lt, zero-div, div-one, div-add-mod'}
+use native.Mathlib.Nat.{suc-mul, suc-add, zero-add, add-zero, add-comm, mul-assoc, mul-comm, zero-div, div-one, div-add-mod'}
 use native.Mathlib.Numerals.{add-one}
 use lib.Arith.{digits-div, digits-mod, digits-lt}
-use lib.Pow.{pow-add, pow-pos, shr-lt, shr-shr, field, mod-mod-pow}
+use lib.Pow.{pow-add, shr-lt, shr-shr, field, mod-mod-pow}
 use lib.ListN.{length, take, drop, getD}
 use lib.Seq.{take-add, take-nil, length-take-le, drop-drop, getD-drop}
 
@@ -81,10 +81,6 @@ bytes-mod (suc n) w =
     ap (λ x. bytes (suc n) (w % 2 ^ x)) (suc-mul n 8)
     ∙ ap₂ (λ x y. x ∷ bytes n y) (mod-mod-pow w (n * 8) 8) (field w (n * 8) 8)
     ∙ ap (λ x. w % 256 ∷ x) (bytes-mod n (w / 256))
-
--- the number of a number's n bytes is what its n bytes hold
-pub number-bytes-mod : (n w : ℕ) → number (bytes n w) ≡ w % 2 ^ (n * 8)
-number-bytes-mod n w = ap number (sym (bytes-mod n w)) ∙ number-bytes n (w % 2 ^ (n * 8)) (mod-lt w (pow-pos (n * 8)))
 
 -- ---- a number in two parts
 

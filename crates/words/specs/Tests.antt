@@ -1,11 +1,11 @@
 -- Truth values: a choice between two values, and laws of `&&` and of comparisons.
 -- Assumes nothing.
 use mathlib.Core.Path.{_≡_, refl, sym}
-use mathlib.Core.Bool.{Bool, true, false, _&&_}
+use mathlib.Core.Bool.{Bool, true, false, not, _&&_}
 use mathlib.Core.Logic.{_⊎_, inl, inr}
 use Prim.Native.Nat.{ℕ, suc, _≤_, _<_}
 use native.Mathlib.Omega.{arith}
-use lib.Dec.{leb}
+use lib.Dec.{T, leb, ltb, ltb→lt, nltb→le}
 use borrow.Author.Tests.{leb-true, leb-false, le-leb, lt-leb}
 
 -- a where the test holds, and b where it does not
@@ -40,3 +40,11 @@ leb-same a b c d f g = go (leb a b) refl
     go : (t : Bool) → leb a b ≡ t → t ≡ leb c d
     go true e = sym (le-leb c d (f (leb-true a b e)))
     go false e = sym (lt-leb c d (g (leb-false a b e)))
+
+-- of two numbers the one is below the other, or not
+pub split : (a b : ℕ) → (a < b) ⊎ (b ≤ a)
+split a b = go (ltb a b) (ltb→lt a b) (nltb→le a b)
+  where
+    go : (t : Bool) → (T t → a < b) → (T (not t) → b ≤ a) → (a < b) ⊎ (b ≤ a)
+    go true h k = inl (h tt)
+    go false h k = inr (k tt)

@@ -5,12 +5,12 @@ use Prim.Native.Nat.{ℕ, _+_, _*_, _%_, _≤_, _<_}
 use native.Mathlib.Nat.{le-of-lt, mul-le-mul}
 use native.Mathlib.Omega.{arith}
 use lib.Ieee.{binary32, ofBits}
-use Rattle.channels.specs.Nearest.{split}
 use Rattle.channels.specs.Floats.{clamped, negative-pattern, nan-pattern, high-pattern}
 use Rattle.depth_texture.proofs.Patterns.{code-zero, code-full, code-small, code-normal}
 use borrow.Author.Needs.{needs}
 use Rattle.depth_texture.proofs.code_of_bits.Statement.{statement}
 use Rattle.depth_texture.proofs.code_of_bits.Tie as tie
+use Rattle.words.specs.Tests.{split}
 
 -- a NaN's pattern, and one with a sign
 nothing : (b : ℕ) → 2139095040 < b → clamped (ofBits binary32 b) .top ≡ 0

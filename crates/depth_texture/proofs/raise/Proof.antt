@@ -3,10 +3,10 @@ use mathlib.Core.Path.{refl}
 use Prim.Native.Nat.{_+_, _-_}
 use native.Mathlib.Omega.{arith}
 use native.Mathlib.Nat.{div-mul-le-self}
-use Rattle.depth_texture.specs.Layouts.{raised}
 use borrow.Author.Needs.{needs}
 use Rattle.depth_texture.proofs.raise.Statement.{statement}
 use Rattle.depth_texture.proofs.raise.Tie as tie
+use Rattle.words.specs.Multiples.{raised}
 
 sub-result : tie.Need-sub-result
 sub-result c = search needs

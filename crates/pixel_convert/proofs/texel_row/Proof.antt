@@ -72,7 +72,7 @@ add-fetch : tie.Need-add-fetch Inv-loop μ-loop
 add-fetch c = omega (arith, source c .column)
 
 fetch-requires : tie.Need-fetch-requires Inv-loop μ-loop
-fetch-requires c κs = (start c .pre .picture, c .before .before .before .before .bytes-per-texel .ensures, c .before .before .source-layout .ensures, source c .places)
+fetch-requires c κs = (start c .pre .picture, c .before .before .before .before .bytes-per-texel .ensures, c .before .before .source-layout .ensures .1, source c .places)
 
 add-store : tie.Need-add-store Inv-loop μ-loop
 add-store c = omega (arith, start (c .before .before) .pre .columns (c .before .before .before .loop .col) (c .before .before .loop-test .taken))

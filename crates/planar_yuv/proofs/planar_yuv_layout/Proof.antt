@@ -24,7 +24,7 @@ returns-3 c =
     let s = c .before .before .before .before .args in
     let r = c .layout-from-pitch .result in
     let e : replyOf r ≡ fromPitch (s .d3d-format) (linearRowPitch (s .width)) (s .height) =
-    c .layout-from-pitch .ensures ∙ ap (λ p. fromPitch (s .d3d-format) p (s .height)) (c .before .linear-row-pitch .ensures) in (
+    c .layout-from-pitch .ensures ∙ ap (λ p. fromPitch (s .d3d-format) p (s .height)) (c .before .linear-row-pitch .ensures .0) in (
       e ∙ sym (of-width (s .d3d-format) (s .width) (s .height) (omega arith) (c .before .before .if2 .left)),
       (planes-of (s .d3d-format) (linearRowPitch (s .width)) (s .height) r e, rows-hold (s .d3d-format) (s .width) (s .height) r e),
     )

@@ -6,8 +6,7 @@ use Prim.Native.Nat.{ℕ, _/_, _<_}
 use native.Mathlib.Nat.{lt-trans}
 use lib.Dec.{ltb, ltb→lt, lit<}
 use Rattle.words.specs.Computed.{below-at}
-use Rattle.words.specs.Tests.{pick}
-use Rattle.channels.specs.Nearest.{split}
+use Rattle.words.specs.Tests.{pick, split}
 use Rattle.formats.specs.Lanes.{bits}
 use Rattle.formats.specs.Table.{bytesOf, partsOf, not-listed-above}
 use Rattle.formats.specs.Classes.{listed}

@@ -1,7 +1,7 @@
 -- `wentuqis::wentuqis_planar_yuv_layout_from_pitch` meets its contract: the inner call's answer, in document 01's numbers. Assumes nothing.
-use mathlib.Core.Path.{_≡_, ap, _∙_}
-use Rattle.planar_yuv.specs.Answers.{Reply}
-use Rattle.wentuqis.specs.Calls.{planarValues}
+use mathlib.Core.Path.{_≡_, sym, ap, _∙_, subst}
+use Rattle.planar_yuv.specs.Answers.{Reply, planes-given}
+use Rattle.wentuqis.specs.Calls.{planarValues, PlanesApart}
 use borrow.Author.Needs.{needs}
 use Rattle.wentuqis.proofs.wentuqis_planar_yuv_layout_from_pitch.Statement.{statement}
 use Rattle.wentuqis.proofs.wentuqis_planar_yuv_layout_from_pitch.Tie as tie
@@ -14,8 +14,12 @@ put-planar-requires c κs = search needs
 
 returns : tie.Need-returns
 returns c =
-    let e = c .before .before .planar-yuv-layout-from-pitch .ensures .0 in
-    (c .put-planar .ensures .0 ∙ ap (λ (r : Reply). r .number) e, c .put-planar .ensures .1 ∙ ap planarValues e)
+    let f = c .before .before .before .args .format in
+    let a = c .before .before .planar-yuv-layout-from-pitch in
+    let p = c .put-planar .ensures in (
+      p .0 ∙ ap (λ (r : Reply). r .number) (a .ensures .0),
+      (p .1 ∙ ap planarValues (a .ensures .0), λ z. subst (PlanesApart f) (sym (p .1)) (planes-given f (a .result) (a .ensures .1) (sym (p .0) ∙ z))),
+    )
 
 pub wentuqis-planar-yuv-layout-from-pitch-spec : {M : Type 1} → statement M
 wentuqis-planar-yuv-layout-from-pitch-spec =

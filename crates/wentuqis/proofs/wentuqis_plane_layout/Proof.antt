@@ -1,6 +1,9 @@
 -- `wentuqis::wentuqis_plane_layout` meets its contract: the inner call's answer, in document 01's numbers. Assumes nothing.
-use mathlib.Core.Path.{_≡_, ap, _∙_}
-use Rattle.wentuqis.specs.Calls.{planeValues}
+use mathlib.Core.Path.{_≡_, sym, ap, _∙_, subst}
+use mathlib.Core.List.{List}
+use Prim.Native.Nat.{ℕ}
+use Rattle.depth_texture.specs.Layouts.{Stands, Pitches}
+use Rattle.wentuqis.specs.Calls.{planeValues, planesIn}
 use borrow.Author.Needs.{needs}
 use Rattle.wentuqis.proofs.wentuqis_plane_layout.Statement.{statement}
 use Rattle.wentuqis.proofs.wentuqis_plane_layout.Tie as tie
@@ -13,8 +16,18 @@ put-planes-requires c κs = search needs
 
 returns : tie.Need-returns
 returns c =
+    let g = c .before .before .before .args in
     let e = c .before .before .new .ensures in
-    (c .put-planes .ensures .0 ∙ e .0, c .put-planes .ensures .1 ∙ ap planeValues (e .1 .0))
+    let p = c .put-planes .ensures in (
+      p .0 ∙ e .0,
+      (
+        p .1 ∙ ap planeValues (e .1 .0),
+        (
+          λ z. subst (λ (l : List ℕ). Stands (planesIn l)) (sym (p .1)) (e .1 .1 .0 (sym (p .0) ∙ z)),
+          λ z. subst (λ (l : List ℕ). Pitches (g .width) (g .alignment) (planesIn l)) (sym (p .1)) (e .1 .1 .1 (sym (p .0) ∙ z)),
+        ),
+      ),
+    )
 
 pub wentuqis-plane-layout-spec : {M : Type 1} → statement M
 wentuqis-plane-layout-spec = tie.close (tie.spec new-requires put-planes-requires returns)

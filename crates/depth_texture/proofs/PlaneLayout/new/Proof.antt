@@ -4,13 +4,14 @@ use Prim.Native.Nat.{_*_, max}
 use mathlib.Core.Bool.{true, false}
 use lib.Dec.{leb}
 use borrow.Author.Tests.{not-true, not-false}
-use Rattle.depth_texture.specs.Layouts.{raised, isPowerOfTwo, layout}
+use Rattle.depth_texture.specs.Layouts.{isPowerOfTwo, layout}
 use Rattle.depth_texture.specs.Refusals.{Answered, zero-width, zero-height, no-power, depth-over, stencil-over, made}
 use Rattle.depth_texture.specs.declared.PlaneLayoutAnswer.{PlaneLayoutAnswer}
 use Rattle.depth_texture.specs.declared.PlaneLayoutAnswer.the-variants.{Layout, Over64Bits}
 use borrow.Author.Needs.{needs}
 use Rattle.depth_texture.proofs.PlaneLayout.new.Statement.{statement}
 use Rattle.depth_texture.proofs.PlaneLayout.new.Tie as tie
+use Rattle.words.specs.Multiples.{raised}
 
 -- the sizes are not 0
 abbrev start : tie.Else2 → tie.Start
