@@ -1,6 +1,6 @@
 /*
  * libwentuqis.a for C99 and C++: pixel conversion, planar YUV layouts, colour fills and depth planes of Direct3D 9.
- * An altered version of parts of mtld3d (https://github.com/athei/mtld3d), see NOTICE. Format codes are D3DFORMAT's.
+ * An altered version of parts of mtld3d (https://github.com/athei/mtld3d), see NOTICE.
  *
  * A uint32_t reply is 0 where the call was accepted, else the number of the refusal; where several apply, the lowest.
  * Refused, a call leaves every lent byte (of dst, depth, stencil, packed) as it was; where values are handed back
@@ -13,6 +13,21 @@
  *     length, stands for all of it, initialised and aligned for its type.
  *   - A buffer that a call may write (a pointer that is not const) overlaps no other buffer of that call.
  *   - Until a call returns, nothing else writes what it was lent, or reads what it may write.
+ *
+ * Where things lie. Lengths, pitches and offsets are in bytes, numbers are little-endian, divisions round down.
+ *   - Texel of a conversion at slice z, row y, column x: z * slice_pitch + y * pitch + x * (bytes of a texel). A packed
+ *     YUV texel needs its whole macropixel of four bytes, at z * slice_pitch + y * pitch + x / 2 * 4: Y U Y V in YUY2,
+ *     U Y V Y in UYVY, the first Y for the even column.
+ *   - Texel of a planar frame: Y at y * pitch + x. With B = pitch * luma_rows, NV12 has U at
+ *     B + y / 2 * pitch + x / 2 * 2 and V next; YV12 has V at B + y / 2 * (pitch / 2) + x / 2 and U later by
+ *     chroma_rows * (pitch / 2). The pitch is even, at most 16384; chroma rows are half the luma rows, rounded up, and
+ *     both together at most 16384; YV12 has an even number of luma rows. In a conversion there are
+ *     src_slice_pitch / src_pitch luma rows, and a row has as many texels as the pitch has bytes.
+ *   - Pixel of the two planes: depth at y * depth_pitch + 4 * x, a binary32 number in little-endian bytes; stencil at
+ *     y * stencil_pitch + x, a byte.
+ *   - Packed depth pixel: D16 at y * packed_pitch + 2 * x, a 16-bit code; D24S8 and D24X8 at y * packed_pitch + 4 * x.
+ *     D24S8 has the stencil byte, then a 24-bit code; D24X8 the code, then X: the code lies below X, against the name.
+ *     A code k stands for k / 65535 in D16, else for k / 16777215.
  */
 #ifndef WENTUQIS_H
 #define WENTUQIS_H
@@ -30,6 +45,50 @@
 #ifdef __cplusplus
 extern "C" {
 #endif
+
+/* The format codes that the calls take, as in D3DFORMAT: a number, or four ASCII letters, the first one lowest.
+ * A name lists lanes from the top bit of a little-endian word down, but for D24X8: A8R8G8B8 is B, G, R, A in memory.
+ * Any other number may be passed too: it has no conversion, no fill, no planar layout and no packed depth. */
+enum {
+    /* the twelve RGB formats, which convert into each other; all but R8G8B8 and A8L8 can be filled */
+    WENTUQIS_FMT_R8G8B8 = 20,
+    WENTUQIS_FMT_A8R8G8B8 = 21,
+    WENTUQIS_FMT_X8R8G8B8 = 22,
+    WENTUQIS_FMT_R5G6B5 = 23,
+    WENTUQIS_FMT_X1R5G5B5 = 24,
+    WENTUQIS_FMT_A1R5G5B5 = 25,
+    WENTUQIS_FMT_A4R4G4B4 = 26,
+    WENTUQIS_FMT_A8 = 28,
+    WENTUQIS_FMT_A8B8G8R8 = 32,
+    WENTUQIS_FMT_X8B8G8R8 = 33,
+    WENTUQIS_FMT_L8 = 50,
+    WENTUQIS_FMT_A8L8 = 51,
+    /* the two wide sources, which convert into A8R8G8B8 only; both can be filled */
+    WENTUQIS_FMT_A16B16G16R16 = 36,
+    WENTUQIS_FMT_A32B32G32R32F = 116,
+    /* twelve more that can be filled, which makes 24 with the above; U, V, W, Q are signed red, green, blue, alpha */
+    WENTUQIS_FMT_A2B10G10R10 = 31,
+    WENTUQIS_FMT_G16R16 = 34,
+    WENTUQIS_FMT_A2R10G10B10 = 35,
+    WENTUQIS_FMT_V8U8 = 60,
+    WENTUQIS_FMT_Q8W8V8U8 = 63,
+    WENTUQIS_FMT_V16U16 = 64,
+    WENTUQIS_FMT_Q16W16V16U16 = 110,
+    WENTUQIS_FMT_R16F = 111,
+    WENTUQIS_FMT_G16R16F = 112,
+    WENTUQIS_FMT_A16B16G16R16F = 113,
+    WENTUQIS_FMT_R32F = 114,
+    WENTUQIS_FMT_G32R32F = 115,
+    /* the YUV sources, which convert into the RGB formats: two packed, two planar; the planar ones have layouts */
+    WENTUQIS_FMT_YUY2 = 0x32595559, /* 'Y', 'U', 'Y', '2' */
+    WENTUQIS_FMT_UYVY = 0x59565955, /* 'U', 'Y', 'V', 'Y' */
+    WENTUQIS_FMT_YV12 = 0x32315659, /* 'Y', 'V', '1', '2' */
+    WENTUQIS_FMT_NV12 = 0x3231564e, /* 'N', 'V', '1', '2' */
+    /* the three depth formats, which are unpacked and packed */
+    WENTUQIS_FMT_D24S8 = 75,
+    WENTUQIS_FMT_D24X8 = 77,
+    WENTUQIS_FMT_D16 = 80
+};
 
 /* The replies. */
 enum {
@@ -55,64 +114,64 @@ enum {
     WENTUQIS_NO_PLANAR_LAYOUT = 14 /* neither YV12 nor NV12, or sizes that no layout has */
 };
 
-/* Whether wentuqis_convert_region takes this pair: twelve RGB formats into each other, YUY2, UYVY, YV12 and NV12 into
- * these, A16B16G16R16 and A32B32G32R32F into A8R8G8B8. */
+/* Whether wentuqis_convert_region takes this pair: the twelve RGB formats into each other, the four YUV formats into
+ * these, the two wide formats into A8R8G8B8. */
 bool wentuqis_can_convert(uint32_t src_format, uint32_t dst_format);
 
 /* The pairs that UpdateSurface and UpdateTexture take:
  * those of wentuqis_can_convert without planar and wide sources. */
 bool wentuqis_can_convert_update(uint32_t src_format, uint32_t dst_format);
 
-/* Converts width x height x depth texels of src into dst; x and y are in texels, pitches in bytes. Refusals 1 to 4.
- * An empty region is accepted and writes nothing. src_slice_pitch / src_pitch are the luma rows of a planar source. */
+/* Converts width x height x depth texels of src into dst by slice, row, column; the last of overlapping texels stands,
+ * X is written as ones. Refusals 1 to 4; with width, height or depth 0 neither 3 nor 4, and nothing is written. */
 uint32_t wentuqis_convert_region(uint8_t *dst, size_t dst_len, uint32_t dst_format,
                                  const uint8_t *src, size_t src_len, uint32_t src_format,
                                  uint32_t src_x, uint32_t src_y, uint32_t dst_x, uint32_t dst_y,
                                  uint32_t width, uint32_t height, size_t src_pitch, size_t dst_pitch,
                                  size_t src_slice_pitch, size_t dst_slice_pitch, size_t depth);
 
-/* One texel of a format, filled with a D3DCOLOR (0xAARRGGBB): the first *length of bytes, and zeros after them.
- * Refusal 5, with *length 0 and sixteen zeros. */
+/* One texel of a D3DCOLOR (0xAARRGGBB): the first *length of bytes, then zeros. X keeps the colour's alpha bits.
+ * Refusal 5, with *length 0 and sixteen zeros. bytes and *length must be initialised memory. */
 uint32_t wentuqis_d3dcolor_fill_pixel_bytes(uint32_t color, uint32_t format, uint8_t bytes[16], uint32_t *length);
 
 /* Repeats pixel over all of dst: byte i becomes pixel[i % pixel_len].
  * Never refuses; an empty pixel changes no byte. */
 void wentuqis_splat_pixel_pattern(uint8_t *dst, size_t dst_len, const uint8_t *pixel, size_t pixel_len);
 
-/* The binary16 number nearest to a binary32 one, ties to even, both as their bits; magnitudes below 2^-24 give zero.
- * Never refuses; a NaN gives 0x7e00 with its sign. */
+/* The binary16 number nearest to a binary32 one, ties to even, both as their bits. Never refuses.
+ * The sign stays: magnitudes below 2^-24 give zero, from 65520 on infinity, a NaN gives 0x7e00. */
 uint16_t wentuqis_f32_to_f16_bits(uint32_t bits);
 
-/* Red, green, blue and alpha of a D3DCOLOR, each divided by 255.
- * Never refuses. */
+/* Red, green, blue and alpha of a D3DCOLOR (0xAARRGGBB), each divided by 255.
+ * Never refuses. rgba must be initialised memory. */
 void wentuqis_d3dcolor_to_rgba_f32(uint32_t color, float rgba[4]);
 
-/* Red, green and blue of a BT.601 sample of reduced range.
- * Never refuses. */
+/* Red, green and blue of a BT.601 sample of reduced range; luma starts at 16.065, cb (U) and cr (V) centre on 127.5.
+ * Never refuses. rgb must be initialised memory. */
 void wentuqis_yuv_to_rgb8(uint8_t luma, uint8_t cb, uint8_t cr, uint8_t rgb[3]);
 
-/* Rows of a depth and a stencil plane, aligned; layout is width, height, depth pitch, stencil pitch.
- * Refusals 6 to 8, with four zeros. */
+/* layout is width, height, depth pitch, stencil pitch: 4 x width and width raised to a multiple of alignment, which
+ * counts as 4 if below. Refusals 6 to 8, with four zeros. layout must be initialised memory. */
 uint32_t wentuqis_plane_layout(uint32_t width, uint32_t height, uint32_t alignment, uint64_t layout[4]);
 
-/* Takes packed depth apart: a binary32 number for each pixel into depth, the stencil byte of D24S8 into stencil.
- * Refusals 9 to 13. Without a stencil its plane is neither read nor written. */
+/* Unpacks each pixel: what its code stands for, rounded once, into depth, the stencil byte of D24S8 into stencil.
+ * Refusals 9 to 13. Row padding is kept. Without a stencil its plane is neither read nor written. */
 uint32_t wentuqis_unpack(uint32_t format, size_t width, size_t height, size_t depth_pitch, size_t stencil_pitch,
                          const uint8_t *packed, size_t packed_len, size_t packed_pitch,
                          uint8_t *depth, size_t depth_len, uint8_t *stencil, size_t stencil_len);
 
-/* Puts planes together into packed depth: the nearest code, ties to even; NaN packs as 0. Row padding is kept.
- * Refusals 9 to 13. Packing what was unpacked restores every pixel of D16 and D24S8. */
+/* Packs each pixel: its depth, clamped to 0..1, NaN as 0, as the nearest code, ties to even; X as 0. Padding is kept.
+ * Refusals 9 to 13. Packing the untouched planes of an unpacked D16 or D24S8 picture restores every pixel. */
 uint32_t wentuqis_pack(uint32_t format, size_t width, size_t height, size_t depth_pitch, size_t stencil_pitch,
                        const uint8_t *depth, size_t depth_len, const uint8_t *stencil, size_t stencil_len,
                        uint8_t *packed, size_t packed_len, size_t packed_pitch);
 
-/* The planes of a YV12 or NV12 frame of this width and height; layout is pitch, luma rows, chroma rows, total bytes.
- * Refusal 14, with four zeros. */
+/* layout is pitch (width raised to a multiple of 4), luma rows (height), chroma rows, total bytes of a planar frame.
+ * Refusal 14, with four zeros. layout must be initialised memory. */
 uint32_t wentuqis_planar_yuv_layout(uint32_t format, uint32_t width, uint32_t height, uint64_t layout[4]);
 
 /* The same for a frame known by its pitch and luma rows.
- * Refusal 14, with four zeros. */
+ * Refusal 14, with four zeros. layout must be initialised memory. */
 uint32_t wentuqis_planar_yuv_layout_from_pitch(uint32_t format, size_t pitch, size_t luma_rows, uint64_t layout[4]);
 
 #ifdef __cplusplus

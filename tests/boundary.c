@@ -8,17 +8,6 @@
 
 #include "wentuqis.h"
 
-/* D3DFORMAT codes, as in d3d9types.h. */
-enum {
-    A8R8G8B8 = 21,
-    R5G6B5 = 23,
-    D24S8 = 75,
-    D16 = 80,
-    YUY2 = 0x32595559,
-    YV12 = 0x32315659,
-    NV12 = 0x3231564e
-};
-
 static int passed, failed;
 
 static void check(bool holds, const char *what)
@@ -48,16 +37,16 @@ static bool numbers(const uint64_t found[4], uint64_t a, uint64_t b, uint64_t c,
 
 static void test_pairs(void)
 {
-    check(wentuqis_can_convert(NV12, R5G6B5), "can_convert: NV12 to R5G6B5");
-    check(!wentuqis_can_convert(R5G6B5, NV12), "can_convert: R5G6B5 to NV12");
-    check(wentuqis_can_convert_update(YUY2, R5G6B5), "can_convert_update: YUY2 to R5G6B5");
-    check(!wentuqis_can_convert_update(NV12, R5G6B5), "can_convert_update: NV12 to R5G6B5");
+    check(wentuqis_can_convert(WENTUQIS_FMT_NV12, WENTUQIS_FMT_R5G6B5), "can_convert: NV12 to R5G6B5");
+    check(!wentuqis_can_convert(WENTUQIS_FMT_R5G6B5, WENTUQIS_FMT_NV12), "can_convert: R5G6B5 to NV12");
+    check(wentuqis_can_convert_update(WENTUQIS_FMT_YUY2, WENTUQIS_FMT_R5G6B5), "can_convert_update: YUY2 to R5G6B5");
+    check(!wentuqis_can_convert_update(WENTUQIS_FMT_NV12, WENTUQIS_FMT_R5G6B5), "can_convert_update: NV12 to R5G6B5");
 }
 
 /* Converts two texels of a row into A8R8G8B8. */
 static uint32_t convert(uint8_t *dst, size_t dst_len, const uint8_t *src, size_t src_len, uint32_t src_format)
 {
-    return wentuqis_convert_region(dst, dst_len, A8R8G8B8, src, src_len, src_format,
+    return wentuqis_convert_region(dst, dst_len, WENTUQIS_FMT_A8R8G8B8, src, src_len, src_format,
                                    0, 0, 0, 0, 2, 1, 4, 8, 3, 0, 1);
 }
 
@@ -68,16 +57,16 @@ static void test_convert(void)
     uint8_t dst[8];
 
     memset(dst, 9, sizeof dst);
-    check(convert(dst, 8, frame, 4, D16) == WENTUQIS_UNSUPPORTED_PAIR, "convert_region: pair");
-    check(convert(dst, 8, frame, 4, NV12) == WENTUQIS_PLANAR_SHAPE, "convert_region: planar shape");
-    check(convert(dst, 8, frame, 3, YUY2) == WENTUQIS_SOURCE_OUTSIDE, "convert_region: source");
-    check(convert(dst, 7, frame, 4, YUY2) == WENTUQIS_DESTINATION_OUTSIDE, "convert_region: destination");
+    check(convert(dst, 8, frame, 4, WENTUQIS_FMT_D16) == WENTUQIS_UNSUPPORTED_PAIR, "convert_region: pair");
+    check(convert(dst, 8, frame, 4, WENTUQIS_FMT_NV12) == WENTUQIS_PLANAR_SHAPE, "convert_region: planar shape");
+    check(convert(dst, 8, frame, 3, WENTUQIS_FMT_YUY2) == WENTUQIS_SOURCE_OUTSIDE, "convert_region: source");
+    check(convert(dst, 7, frame, 4, WENTUQIS_FMT_YUY2) == WENTUQIS_DESTINATION_OUTSIDE, "convert_region: destination");
     check(all(dst, sizeof dst, 9), "convert_region: refused, dst is kept");
 
-    check(convert(dst, 8, frame, 4, YUY2) == WENTUQIS_ACCEPTED, "convert_region: accepted");
+    check(convert(dst, 8, frame, 4, WENTUQIS_FMT_YUY2) == WENTUQIS_ACCEPTED, "convert_region: accepted");
     check(memcmp(dst, screen, sizeof dst) == 0, "convert_region: bytes");
-    check(wentuqis_convert_region(dst, 0, A8R8G8B8, frame, 0, YUY2, 0, 0, 0, 0, 0, 0, 0, 0, 0, 0, 0) ==
-              WENTUQIS_ACCEPTED,
+    check(wentuqis_convert_region(dst, 0, WENTUQIS_FMT_A8R8G8B8, frame, 0, WENTUQIS_FMT_YUY2,
+                                  0, 0, 0, 0, 0, 0, 0, 0, 0, 0, 0) == WENTUQIS_ACCEPTED,
           "convert_region: empty region, lengths 0");
 }
 
@@ -87,12 +76,13 @@ static void test_fill(void)
     uint32_t length = 7;
 
     memset(bytes, 9, sizeof bytes);
-    check(wentuqis_d3dcolor_fill_pixel_bytes(0xdeadbeef, R5G6B5, bytes, &length) == WENTUQIS_ACCEPTED,
+    check(wentuqis_d3dcolor_fill_pixel_bytes(0xdeadbeef, WENTUQIS_FMT_R5G6B5, bytes, &length) == WENTUQIS_ACCEPTED,
           "fill: accepted");
     check(length == 2 && bytes[0] == 0xfd && bytes[1] == 0xad && all(bytes + 2, 14, 0), "fill: bytes");
 
     memset(bytes, 9, sizeof bytes);
-    check(wentuqis_d3dcolor_fill_pixel_bytes(0xdeadbeef, D16, bytes, &length) == WENTUQIS_NO_FILL, "fill: refused");
+    check(wentuqis_d3dcolor_fill_pixel_bytes(0xdeadbeef, WENTUQIS_FMT_D16, bytes, &length) == WENTUQIS_NO_FILL,
+          "fill: refused");
     check(length == 0 && all(bytes, 16, 0), "fill: refused, zeros");
 }
 
@@ -149,20 +139,21 @@ static void test_depth(void)
     memset(depth, 9, sizeof depth);
     memset(stencil, 9, sizeof stencil);
     memset(packed, 9, sizeof packed);
-    check(unpack(R5G6B5, 8, picture, 8, depth, 8, stencil) == WENTUQIS_NOT_PACKED_DEPTH, "unpack: format");
-    check(unpack(D24S8, 7, picture, 8, depth, 8, stencil) == WENTUQIS_BAD_LAYOUT, "unpack: layout");
-    check(unpack(D24S8, 8, picture, 7, depth, 8, stencil) == WENTUQIS_SHORT_PACKED, "unpack: packed");
-    check(unpack(D24S8, 8, picture, 8, depth, 7, stencil) == WENTUQIS_SHORT_DEPTH, "unpack: depth");
+    check(unpack(WENTUQIS_FMT_R5G6B5, 8, picture, 8, depth, 8, stencil) == WENTUQIS_NOT_PACKED_DEPTH, "unpack: format");
+    check(unpack(WENTUQIS_FMT_D24S8, 7, picture, 8, depth, 8, stencil) == WENTUQIS_BAD_LAYOUT, "unpack: layout");
+    check(unpack(WENTUQIS_FMT_D24S8, 8, picture, 7, depth, 8, stencil) == WENTUQIS_SHORT_PACKED, "unpack: packed");
+    check(unpack(WENTUQIS_FMT_D24S8, 8, picture, 8, depth, 7, stencil) == WENTUQIS_SHORT_DEPTH, "unpack: depth");
     check(all(depth, 8, 9) && all(stencil, 4, 9), "unpack: refused, planes are kept");
 
-    check(unpack(D24S8, 8, picture, 8, depth, 8, stencil) == WENTUQIS_ACCEPTED, "unpack: accepted");
+    check(unpack(WENTUQIS_FMT_D24S8, 8, picture, 8, depth, 8, stencil) == WENTUQIS_ACCEPTED, "unpack: accepted");
     check(memcmp(depth, one, sizeof one) == 0, "unpack: depth plane");
     check(stencil[0] == 7 && stencil[1] == 8 && stencil[2] == 9, "unpack: stencil plane");
 
-    check(wentuqis_pack(D24S8, 2, 1, 8, 4, depth, 8, stencil, 3, packed, 9, 9) == WENTUQIS_SHORT_STENCIL,
+    check(wentuqis_pack(WENTUQIS_FMT_D24S8, 2, 1, 8, 4, depth, 8, stencil, 3, packed, 9, 9) == WENTUQIS_SHORT_STENCIL,
           "pack: stencil");
     check(all(packed, 9, 9), "pack: refused, packed is kept");
-    check(wentuqis_pack(D24S8, 2, 1, 8, 4, depth, 8, stencil, 4, packed, 9, 9) == WENTUQIS_ACCEPTED, "pack: accepted");
+    check(wentuqis_pack(WENTUQIS_FMT_D24S8, 2, 1, 8, 4, depth, 8, stencil, 4, packed, 9, 9) == WENTUQIS_ACCEPTED,
+          "pack: accepted");
     check(memcmp(packed, picture, 8) == 0 && packed[8] == 9, "pack: restored at another pitch");
 }
 
@@ -170,15 +161,17 @@ static void test_planar_layouts(void)
 {
     uint64_t layout[4] = {9, 9, 9, 9};
 
-    check(wentuqis_planar_yuv_layout(NV12, 6, 3, layout) == WENTUQIS_ACCEPTED, "planar_yuv_layout: accepted");
+    check(wentuqis_planar_yuv_layout(WENTUQIS_FMT_NV12, 6, 3, layout) == WENTUQIS_ACCEPTED,
+          "planar_yuv_layout: accepted");
     check(numbers(layout, 8, 3, 2, 40), "planar_yuv_layout: numbers");
-    check(wentuqis_planar_yuv_layout(YV12, 6, 3, layout) == WENTUQIS_NO_PLANAR_LAYOUT, "planar_yuv_layout: refused");
+    check(wentuqis_planar_yuv_layout(WENTUQIS_FMT_YV12, 6, 3, layout) == WENTUQIS_NO_PLANAR_LAYOUT,
+          "planar_yuv_layout: refused");
     check(numbers(layout, 0, 0, 0, 0), "planar_yuv_layout: refused, zeros");
 
-    check(wentuqis_planar_yuv_layout_from_pitch(NV12, 10, 3, layout) == WENTUQIS_ACCEPTED,
+    check(wentuqis_planar_yuv_layout_from_pitch(WENTUQIS_FMT_NV12, 10, 3, layout) == WENTUQIS_ACCEPTED,
           "planar_yuv_layout_from_pitch: accepted");
     check(numbers(layout, 10, 3, 2, 50), "planar_yuv_layout_from_pitch: numbers");
-    check(wentuqis_planar_yuv_layout_from_pitch(NV12, 9, 3, layout) == WENTUQIS_NO_PLANAR_LAYOUT,
+    check(wentuqis_planar_yuv_layout_from_pitch(WENTUQIS_FMT_NV12, 9, 3, layout) == WENTUQIS_NO_PLANAR_LAYOUT,
           "planar_yuv_layout_from_pitch: refused");
     check(numbers(layout, 0, 0, 0, 0), "planar_yuv_layout_from_pitch: refused, zeros");
 }

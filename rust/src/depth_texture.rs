@@ -1,8 +1,9 @@
 //! Packed depth pixels and the two planes, depth and stencil, that they are unpacked into.
 //!
 //! A depth plane holds a binary32 number for each pixel, a stencil plane a byte. Packing takes the
-//! nearest code, so unpacking and then packing restores every pixel of D16 and D24S8, whatever the
-//! pitches. Refused, a call leaves every byte it was lent.
+//! nearest code, so unpacking and then packing the untouched planes, with the same format and layout,
+//! restores every pixel of D16 and D24S8, whatever the packed pitches. Refused, a call leaves every
+//! byte it was lent.
 
 use std::fmt;
 
@@ -12,7 +13,7 @@ use crate::refusal::{Call, Refusal, Refused, accepted};
 
 pub use crate::shapes::PlaneLayout;
 
-/// A packed depth format.
+/// A packed depth format. Its methods are plain Rust: tested, not proved.
 ///
 /// ```
 /// use wentuqis::depth_texture::PackedDepth;
@@ -26,7 +27,7 @@ pub use crate::shapes::PlaneLayout;
 pub enum PackedDepth {
     /// A 16-bit code.
     D16,
-    /// A 24-bit code below an X byte, which packing writes as 0.
+    /// A 24-bit code below an X byte, against its name; packing writes X as 0.
     D24X8,
     /// A stencil byte, then a 24-bit code.
     D24S8,

@@ -1,7 +1,7 @@
 //! `D3DFORMAT` codes, named as in Direct3D 9.
 //!
-//! A name lists its lanes from the top bit down; texels are little-endian. Any other number is a
-//! legal argument of every call, and is refused where a format is needed.
+//! A name lists its lanes from the top bit down, but for D24X8; texels are little-endian. Any other
+//! number is a legal argument of every call, and is refused where a format is needed.
 //!
 //! ```
 //! use wentuqis::format::{D3DFMT_A8R8G8B8, D3DFMT_YUY2};
@@ -63,7 +63,7 @@ codes! {
     D3DFMT_V16U16 "V16U16" 64;
     /// 32 bits: the stencil byte, then a 24-bit depth code.
     D3DFMT_D24S8 "D24S8" 75;
-    /// 32 bits: a 24-bit depth code, then X.
+    /// 32 bits: a 24-bit depth code, then X, against its name.
     D3DFMT_D24X8 "D24X8" 77;
     /// A 16-bit depth code.
     D3DFMT_D16 "D16" 80;

@@ -52,8 +52,10 @@ pub fn can_convert_update(src_format: u32, dst_format: u32) -> bool {
 /// Converts `region` of `src` into `dst`; false if refused, and `dst` is then as it was.
 ///
 /// `src` and `dst` are whole levels, addressed through the region's pitches. Texels go by slice, row
-/// and column; where destination texels overlap, the last stands. A region with width, height or
-/// depth 0 is accepted and writes nothing. [`try_convert_region`] says why it refuses.
+/// and column; where destination texels overlap, the last stands. X is written as ones. A packed YUV
+/// texel needs its whole macropixel of four bytes. A region with width, height or depth 0 is accepted
+/// and writes nothing, if the formats convert and a planar source has its shape.
+/// [`try_convert_region`] says why it refuses.
 ///
 /// ```
 /// use wentuqis::format::{D3DFMT_A8R8G8B8, D3DFMT_R5G6B5};

@@ -17,7 +17,8 @@ const MAX_TEXTURE_DIM: u128 = 16384;
 ///
 /// Offsets take luma coordinates; chroma offsets halve them, so that the four texels of a 2 × 2 block
 /// share one sample. An offset is inside [`total_bytes`](Self::total_bytes) wherever
-/// [`contains`](Self::contains) holds.
+/// [`contains`](Self::contains) holds. The numbers come from the library; the methods are plain Rust:
+/// tested, not proved.
 ///
 /// ```
 /// use wentuqis::format::D3DFMT_NV12;
