@@ -170,7 +170,7 @@ pub fn d3dcolor_to_rgba_f32(color: u32) -> [f32; 4]
     ]
 }
 
-// Four channels as the codes of lanes: signed ones of eight bits,
+// Four channels as signed codes of eight bits, for lanes to hold.
 fn snorm8_lanes(c: Lanes8) -> Lanes8
     ensures { λ l. ⌜ Codes signed 8 (c .r) (c .g) (c .b) (c .a) (l .r) (l .g) (l .b) (l .a) ⌝ }
 {
@@ -182,7 +182,7 @@ fn snorm8_lanes(c: Lanes8) -> Lanes8
     }
 }
 
-// signed ones of sixteen bits,
+// The same as signed codes of sixteen bits.
 fn snorm16_lanes(c: Lanes8) -> Lanes16
     ensures { λ l. ⌜ Codes signed 16 (c .r) (c .g) (c .b) (c .a) (l .r) (l .g) (l .b) (l .a) ⌝ }
 {
@@ -194,7 +194,7 @@ fn snorm16_lanes(c: Lanes8) -> Lanes16
     }
 }
 
-// unsigned ones of sixteen bits,
+// The same as unsigned codes of sixteen bits.
 fn unorm16_lanes(c: Lanes8) -> Lanes16
     ensures { λ l. ⌜ Codes unsigned 16 (c .r) (c .g) (c .b) (c .a) (l .r) (l .g) (l .b) (l .a) ⌝ }
 {
@@ -206,7 +206,7 @@ fn unorm16_lanes(c: Lanes8) -> Lanes16
     }
 }
 
-// binary16,
+// The same as binary16 patterns.
 fn f16_lanes(c: Lanes8) -> Lanes16
     ensures { λ l. ⌜ Codes float16 16 (c .r) (c .g) (c .b) (c .a) (l .r) (l .g) (l .b) (l .a) ⌝ }
 {
@@ -218,7 +218,7 @@ fn f16_lanes(c: Lanes8) -> Lanes16
     }
 }
 
-// and binary32.
+// The same as binary32 patterns.
 fn f32_lanes(c: Lanes8) -> Lanes32
     ensures { λ l. ⌜ Codes float32 32 (c .r) (c .g) (c .b) (c .a) (l .r) (l .g) (l .b) (l .a) ⌝ }
 {

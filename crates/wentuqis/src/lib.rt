@@ -31,6 +31,7 @@ use planar_yuv::PlanarYuvAnswer;
 
 // ---- conversion
 
+// No refusal: whether a conversion takes the pair of formats.
 #[no_mangle]
 pub extern "C" fn wentuqis_can_convert(src_format: u32, dst_format: u32) -> bool
     ensures { λ r. ⌜ r ≡ canConvert «src_format» «dst_format» ⌝ }
@@ -38,6 +39,7 @@ pub extern "C" fn wentuqis_can_convert(src_format: u32, dst_format: u32) -> bool
     pixel_convert::can_convert(src_format, dst_format)
 }
 
+// No refusal: whether UpdateSurface and UpdateTexture take the pair.
 #[no_mangle]
 pub extern "C" fn wentuqis_can_convert_update(src_format: u32, dst_format: u32) -> bool
     ensures { λ r. ⌜ r ≡ canConvertUpdate «src_format» «dst_format» ⌝ }
@@ -99,6 +101,7 @@ pub extern "C" fn wentuqis_convert_region(
 
 // ---- YUV
 
+// No refusal: red, green and blue of a sample by document 01's numbers.
 #[no_mangle]
 pub extern "C" fn wentuqis_yuv_to_rgb8(luma: u8, cb: u8, cr: u8, rgb: &mut [u8; 3])
     ensures is { λ _. ⌜ now (rgb .exit) ≡ rgbList (rgbOf bt601 luma cb cr) ⌝ }
@@ -205,6 +208,7 @@ pub extern "C" fn wentuqis_splat_pixel_pattern(dst: &mut [u8], pixel: &[u8])
     convert::splat_pixel_pattern(dst, pixel);
 }
 
+// No refusal: the binary16 pattern of a binary32 pattern.
 #[no_mangle]
 pub extern "C" fn wentuqis_f32_to_f16_bits(bits: u32) -> u16
     ensures is { λ r. ⌜ r ≡ halfOf bits ⌝ }
