@@ -1,4 +1,3 @@
 -- What the proofs of several functions use.
 pub mod Lanes
 pub mod Arms
-pub mod Splats

@@ -14,7 +14,7 @@ use Rattle.formats.specs.Table.{partsOf, bytesOf}
 use Rattle.formats.specs.Classes.{listed}
 use Rattle.channels.specs.Expansion.{truncated}
 use Rattle.channels.specs.Nearest.{rounded}
-use Rattle.convert.specs.Half.{halfOf}
+use Rattle.binary16.specs.Half.{halfOf}
 use Rattle.convert.specs.Color.{byteOf, unormOf}
 use Rattle.convert.specs.declared.FillReply.{FillReply}
 use Rattle.convert.specs.declared.FillReply.the-variants.{Filled, NoFill}

@@ -1,7 +1,3 @@
 -- What the contracts cite, and laws that other crates cite.
-pub mod Units
-pub mod Half
-pub mod Patterns
 pub mod Color
 pub mod Fill
-pub mod Splat

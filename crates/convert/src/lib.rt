@@ -1,7 +1,7 @@
-// Colours as texels: a D3DCOLOR as one texel's bytes for a fill and as four binary32 channels, a pattern of bytes repeated over
-// a slice, and binary32 as binary16. Ported from convert.rs of athei/mtld3d (an altered version, see NOTICE).
+// Colours as texels: a D3DCOLOR as one texel's bytes for a fill, and as four binary32 channels.
 // A format code that has no fill is refused, with sixteen zeros and the length 0; nothing else is refused.
-// specs/Half says which binary16 number is meant, specs/Fill which bytes: the codes in the lanes of formats' table.
+// specs/Fill says which bytes: the codes in the lanes of formats' table.
+// Ported from convert.rs of athei/mtld3d (an altered version, see NOTICE).
 ghost use mathlib.Core.Path.{_≡_};
 ghost use mathlib.Core.List.{[], _∷_};
 ghost use Prim.Native.Nat.{_+_, _*_, _-_, _%_, _≤_, _<_};
@@ -10,10 +10,9 @@ ghost use lib.Seq.{sets};
 ghost use lib.Ieee.{binary32, ofBits, toBits};
 ghost use Rattle.formats.specs.Lanes.{red, green, blue, alpha, unsigned, signed, float16, float32};
 ghost use Rattle.channels.specs.Expansion.{truncated};
-ghost use Rattle.convert.specs.Half.{codeOf, halfOf, HalfOf};
+ghost use Rattle.binary16.specs.Half.{halfOf};
 ghost use Rattle.convert.specs.Color.{byteOf, unormOf, Channels};
 ghost use Rattle.convert.specs.Fill.{nearestCode, filled, refused, fillOf, replyNumber, HandsBack, Codes};
-ghost use Rattle.convert.specs.Splat.{Splat, WholePatterns};
 use formats::D3DFMT_A1R5G5B5;
 use formats::D3DFMT_A2B10G10R10;
 use formats::D3DFMT_A2R10G10B10;
@@ -50,54 +49,6 @@ pub struct FillPixel {
     pub bytes: [u8; 16],
     pub len: usize,
     pub reply: FillReply,
-}
-
-// binary32's exponent field of 2^-14, the smallest normal binary16 number.
-const SMALLEST_NORMAL: u32 = 113;
-
-// The binary16 code of a binary32 pattern from 2^-24 to below 65520. A normal number drops 13 digits of its 24; a subnormal one
-// drops more. A carry out of the fraction adds one to the exponent's field.
-fn nearest_f16(bits: u32) -> u32
-    requires { ⌜ (0x33800000 ≤ bits) × (bits < 0x477ff000) ⌝ }
-    ensures { λ r. ⌜ r ≡ codeOf (ofBits binary32 bits) ⌝ }
-{
-    let exponent = bits / 0x80_0000;
-    let significand = 0x80_0000 + (bits % 0x80_0000) as u64;
-    if exponent >= SMALLEST_NORMAL {
-        (exponent - SMALLEST_NORMAL) * 0x400
-            + channels::nearest_even_shifted(significand, 13) as u32
-    } else {
-        channels::nearest_even_shifted(significand, 126 - exponent) as u32
-    }
-}
-
-// binary32's infinity, above which a pattern is a NaN's.
-const INFINITY: u32 = 0x7f80_0000;
-
-// 65520 in binary32: the middle between 65504, the largest binary16 number, and 65536.
-const FIRST_OVERFLOW: u32 = 0x477f_f000;
-
-// 2^-24 in binary32: the smallest subnormal binary16 number.
-const SMALLEST_SUBNORMAL: u32 = 0x3380_0000;
-
-// A binary32 pattern as the binary16 pattern of the nearest number, a tie to the even code. From 65520 on it is an infinity, below
-// 2^-24 a zero, and a NaN is 7E00; the sign stays.
-pub fn f32_to_f16_bits(bits: u32) -> u16
-    ensures is { λ r. ⌜ r ≡ halfOf bits ⌝ }
-    ensures nearest { λ r. ⌜ HalfOf bits r ⌝ }
-{
-    let sign = bits / 0x8000_0000 * 0x8000;
-    let magnitude = bits % 0x8000_0000;
-    if magnitude > INFINITY {
-        return (sign + 0x7e00) as u16;
-    }
-    if magnitude >= FIRST_OVERFLOW {
-        return (sign + 0x7c00) as u16;
-    }
-    if magnitude < SMALLEST_SUBNORMAL {
-        return sign as u16;
-    }
-    (sign + nearest_f16(magnitude)) as u16
 }
 
 // A D3DCOLOR's channels, and the codes of four lanes of eight bits.
@@ -154,7 +105,7 @@ fn unorm8_to_f32_bits(channel: u8) -> u32
 fn unorm8_to_f16_bits(channel: u8) -> u16
     ensures { λ r. ⌜ r ≡ halfOf (toBits binary32 (unormOf channel)) ⌝ }
 {
-    f32_to_f16_bits(unorm8_to_f32_bits(channel))
+    binary16::f32_to_f16_bits(unorm8_to_f32_bits(channel))
 }
 
 // A colour's red, green, blue and alpha as numbers from 0 to 1.
@@ -411,109 +362,4 @@ pub fn d3dcolor_fill_pixel_bytes(color: u32, d3d_format: u32) -> FillPixel
         _ => no_fill(),
     }
 }
-
-// The pattern, a byte a turn; `phase` is the place in the pattern.
-fn splat_bytes(dst: &mut [u8], pixel: &[u8])
-    requires { ⌜ 0 < length (now pixel) ⌝ }
-    ensures { λ _. ⌜ Splat (now (pixel .entry)) (now (dst .entry)) (now (dst .exit)) ⌝ }
-{
-    let mut at = 0;
-    let mut phase = 0;
-    while at < dst.len() {
-        dst[at] = pixel[phase];
-        at += 1;
-        phase += 1;
-        if phase == pixel.len() {
-            phase = 0;
-        }
-    }
-}
-
-// The bytes of one store of a block: a multiple of 1, 2, 3, 4, 6, 8, 12, 16, 24 and 48.
-const BLOCK: usize = 48;
-
-// The first bytes of a slice, in a loop of constant length, which the compiler makes three loads and three stores.
-fn put_block(out: &mut [u8], src: &[u8])
-    requires { ⌜ (48 ≤ length (now out)) × (48 ≤ length (now src)) ⌝ }
-    ensures { λ _. ⌜ now (out .exit) ≡ sets (now (out .entry)) 0 (take 48 (now (src .entry))) ⌝ }
-{
-    let mut i = 0;
-    while i < BLOCK {
-        out[i] = src[i];
-        i += 1;
-    }
-}
-
-// A pattern whose length divides that of a block, a block a turn.
-fn splat_blocks(dst: &mut [u8], pixel: &[u8])
-    requires { ⌜ (0 < length (now pixel)) × (48 % length (now pixel) ≡ 0) ⌝ }
-    ensures { λ _. ⌜ Splat (now (pixel .entry)) (now (dst .entry)) (now (dst .exit)) ⌝ }
-{
-    let mut block = [0u8; 48];
-    splat_bytes(&mut block, pixel);
-    let len = dst.len();
-    let mut at = 0;
-    while len - at >= BLOCK {
-        put_block(&mut dst[at..], &block);
-        at += BLOCK;
-    }
-    splat_bytes(&mut dst[at..], pixel);
-}
-
-// A block at `at`, from `back` bytes before.
-fn copy_block(dst: &mut [u8], at: usize, back: usize)
-    requires { ⌜ (back ≤ at) × (at + 48 ≤ length (now dst)) ⌝ }
-    ensures { λ _. ⌜ now (dst .exit) ≡ sets (now (dst .entry)) at (take 48 (drop (at - back) (now (dst .entry)))) ⌝ }
-{
-    let from = at - back;
-    let mut block = [0u8; 48];
-    put_block(&mut block, &dst[from..]);
-    put_block(&mut dst[at..], &block);
-}
-
-// How far back a block is copied from at least: its bytes have left the processor's store buffer by then.
-const FAR: usize = 512;
-
-// A whole number of patterns of n bytes that goes as far.
-fn whole_patterns(n: usize) -> usize
-    requires { ⌜ (0 < n) × (n < 9223372036854775808) ⌝ }
-    ensures { λ r. ⌜ WholePatterns n r ⌝ }
-{
-    (FAR / n + 1) * n
-}
-
-// Any other pattern: a whole number of patterns by the byte, and from there on blocks of what stands as far back. The last block
-// ends where the slice does.
-fn splat_copies(dst: &mut [u8], pixel: &[u8])
-    requires { ⌜ 0 < length (now pixel) ⌝ }
-    ensures { λ _. ⌜ Splat (now (pixel .entry)) (now (dst .entry)) (now (dst .exit)) ⌝ }
-{
-    let len = dst.len();
-    let back = whole_patterns(pixel.len());
-    if len < back + BLOCK {
-        splat_bytes(dst, pixel);
-        return;
-    }
-    splat_bytes(&mut dst[..back], pixel);
-    let mut at = back;
-    while len - at >= BLOCK {
-        copy_block(dst, at, back);
-        at += BLOCK;
-    }
-    copy_block(dst, len - BLOCK, back);
-}
-
-// Repeats a pattern over a slice; an empty pattern changes nothing.
-pub fn splat_pixel_pattern(dst: &mut [u8], pixel: &[u8])
-    ensures bytes { λ _. ⌜ Splat (now (pixel .entry)) (now (dst .entry)) (now (dst .exit)) ⌝ }
-{
-    let n = pixel.len();
-    if n == 0 {
-        return;
-    }
-    if BLOCK % n == 0 {
-        splat_blocks(dst, pixel);
-    } else {
-        splat_copies(dst, pixel);
-    }
-}
+//

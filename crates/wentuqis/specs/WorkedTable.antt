@@ -23,8 +23,8 @@ use Rattle.texels.specs.Texels as texels
 use Rattle.places.specs.Places as places
 use Rattle.pixel_convert.specs.Regions as regions
 use Rattle.pixel_convert.specs.Regions.{convertReply, convertedBytes, replyNumber}
-use Rattle.convert.specs.Half as binary16
-use Rattle.convert.specs.Half.{halfOf}
+use Rattle.binary16.specs.Half as binary16
+use Rattle.binary16.specs.Half.{halfOf}
 use Rattle.convert.specs.Fill as fill
 use Rattle.convert.specs.Fill.{fillOf}
 use Rattle.depth_texture.specs.Depth as depth

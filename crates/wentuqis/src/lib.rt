@@ -10,11 +10,11 @@ ghost use Rattle.stretch_rect.specs.Yuv.{bt601, rgbOf, RgbNear, decimalUnit, de
 ghost use Rattle.pixel_convert.specs.Regions.{canConvert, canConvertUpdate, convertReply, convertedBytes, replyNumber, NearSource, OthersKept};
 ghost use Rattle.formats.specs.Table.{bytesOf};
 ghost use Rattle.formats.specs.Lanes.{red, green, blue, alpha};
-ghost use Rattle.convert.specs.Half.{halfOf, HalfOf};
+ghost use Rattle.binary16.specs.Half.{halfOf, HalfOf};
 ghost use Rattle.convert.specs.Color.{byteOf, unormOf};
 ghost use Rattle.convert.specs.Fill as fills;
 ghost use Rattle.convert.specs.Fill.{fillOf};
-ghost use Rattle.convert.specs.Splat.{Splat};
+ghost use Rattle.splat.specs.Splat.{Splat};
 ghost use Rattle.depth_texture.specs.Layouts.{layout, layoutRefusal, layoutFor, answerNumber, answerLayout, Stands, Pitches};
 ghost use Rattle.depth_texture.specs.Replies as depths;
 ghost use Rattle.depth_texture.specs.Replies.{refusalOf};
@@ -205,7 +205,7 @@ pub extern "C" fn wentuqis_d3dcolor_fill_pixel_bytes(
 pub extern "C" fn wentuqis_splat_pixel_pattern(dst: &mut [u8], pixel: &[u8])
     ensures bytes { λ _. ⌜ Splat (now (pixel .entry)) (now (dst .entry)) (now (dst .exit)) ⌝ }
 {
-    convert::splat_pixel_pattern(dst, pixel);
+    splat::splat_pixel_pattern(dst, pixel);
 }
 
 // No refusal: the binary16 pattern of a binary32 pattern.
@@ -214,7 +214,7 @@ pub extern "C" fn wentuqis_f32_to_f16_bits(bits: u32) -> u16
     ensures is { λ r. ⌜ r ≡ halfOf bits ⌝ }
     ensures nearest { λ r. ⌜ HalfOf bits r ⌝ }
 {
-    convert::f32_to_f16_bits(bits)
+    binary16::f32_to_f16_bits(bits)
 }
 
 // Red, green, blue and alpha, each its byte over 255.

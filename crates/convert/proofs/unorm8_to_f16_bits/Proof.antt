@@ -1,6 +1,6 @@
 -- `convert::unorm8_to_f16_bits` meets its contract: the binary16 pattern of the quotient's bits. Assumes nothing.
 use mathlib.Core.Path.{ap, _∙_}
-use Rattle.convert.specs.Half.{halfOf}
+use Rattle.binary16.specs.Half.{halfOf}
 use borrow.Author.Needs.{needs}
 use Rattle.convert.proofs.unorm8_to_f16_bits.Statement.{statement}
 use Rattle.convert.proofs.unorm8_to_f16_bits.Tie as tie

@@ -11,7 +11,7 @@ use lib.Seq.{sets, getD-set-same, getD-set-other, take-suc, take-all, getD-take,
 use native.Mathlib.Numerals.{add-one}
 use Rattle.words.specs.Slices.{sets-append, sets-before, sets-inside, part-back, part-read}
 use Rattle.words.specs.Tests.{lt-or-eq, split}
-use Rattle.convert.specs.Splat.{Splat}
+use Rattle.splat.specs.Splat.{Splat}
 
 -- the bytes below place `at` are the pattern's
 abbrev pub Done : (pixel dst : List ℕ) (at : ℕ) → Type 0

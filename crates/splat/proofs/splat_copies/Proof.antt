@@ -1,4 +1,4 @@
--- `convert::splat_copies` meets its contract: the bytes below `at` are the pattern's, and a whole number of patterns before a byte stands the same one. Assumes nothing.
+-- `splat::splat_copies` meets its contract: the bytes below `at` are the pattern's, and a whole number of patterns before a byte stands the same one. Assumes nothing.
 use mathlib.Core.Path.{_≡_, sym, ap, _∙_, subst}
 use Prim.Native.Nat.{_+_, _≤_, _-_}
 use native.Mathlib.Nat.{le-refl}
@@ -6,9 +6,9 @@ use native.Mathlib.Omega.{arith}
 use lib.ListN.{length}
 use lib.Seq.{length-sets, length-take-le}
 use borrow.Author.Needs.{needs}
-use Rattle.convert.proofs.Splats.{Done, all-done, done-copy, front}
-use Rattle.convert.proofs.splat_copies.Statement.{statement}
-use Rattle.convert.proofs.splat_copies.Tie as tie
+use Rattle.splat.proofs.Splats.{Done, all-done, done-copy, front}
+use Rattle.splat.proofs.splat_copies.Statement.{statement}
+use Rattle.splat.proofs.splat_copies.Tie as tie
 
 abbrev Inv-loop : tie.InvT-loop
 Inv-loop dst₀ pixel len back at₀ dst at = (back ≤ at) × (at ≤ len) × (length dst ≡ len) × Done pixel dst at

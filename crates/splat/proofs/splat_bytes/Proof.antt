@@ -1,13 +1,13 @@
--- `convert::splat_bytes` meets its contract: the bytes below `at` are the pattern's, and `phase` is `at` modulo its length. Assumes nothing.
+-- `splat::splat_bytes` meets its contract: the bytes below `at` are the pattern's, and `phase` is `at` modulo its length. Assumes nothing.
 use mathlib.Core.Path.{_≡_, refl, sym, ap, _∙_}
 use Prim.Native.Nat.{_≤_, _+_, _-_, _%_}
 use native.Mathlib.Nat.{mod-lt, zero-mod}
 use native.Mathlib.Omega.{arith}
 use lib.ListN.{length, getD, length-set}
 use borrow.Author.Needs.{needs}
-use Rattle.convert.proofs.Splats.{Done, all-done, done-none, done-byte, phase-starts, phase-goes-on}
-use Rattle.convert.proofs.splat_bytes.Statement.{statement}
-use Rattle.convert.proofs.splat_bytes.Tie as tie
+use Rattle.splat.proofs.Splats.{Done, all-done, done-none, done-byte, phase-starts, phase-goes-on}
+use Rattle.splat.proofs.splat_bytes.Statement.{statement}
+use Rattle.splat.proofs.splat_bytes.Tie as tie
 
 abbrev Inv-loop : tie.InvT-loop
 Inv-loop dst₀ pixel at₀ phase₀ dst at phase = (at ≤ length dst₀) × (length dst ≡ length dst₀) × (phase ≡ at % length pixel) × Done pixel dst at

@@ -1,11 +1,11 @@
--- `convert::whole_patterns` meets its contract: it is the multiple of n next above 512. Assumes nothing.
+-- `splat::whole_patterns` meets its contract: it is the multiple of n next above 512. Assumes nothing.
 use mathlib.Core.Path.{_≡_}
 use Prim.Native.Nat.{ℕ, _+_, _*_, _/_}
 use native.Mathlib.Nat.{add-mul, one-mul, mul-mod-left, div-le-self, div-mul-le-self, lt-div-mul-add}
 use native.Mathlib.Omega.{arith}
 use borrow.Author.Needs.{needs}
-use Rattle.convert.proofs.whole_patterns.Statement.{statement}
-use Rattle.convert.proofs.whole_patterns.Tie as tie
+use Rattle.splat.proofs.whole_patterns.Statement.{statement}
+use Rattle.splat.proofs.whole_patterns.Tie as tie
 
 spread : (n : ℕ) → (512 / n + 1) * n ≡ 512 / n * n + n
 spread n = omega (arith, add-mul (512 / n) 1 n, one-mul n)

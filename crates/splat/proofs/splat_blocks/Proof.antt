@@ -1,4 +1,4 @@
--- `convert::splat_blocks` meets its contract: the bytes below `at`, a whole number of patterns, are the pattern's. Assumes nothing.
+-- `splat::splat_blocks` meets its contract: the bytes below `at`, a whole number of patterns, are the pattern's. Assumes nothing.
 use mathlib.Core.Path.{_≡_, refl, sym, ap, _∙_}
 use Prim.Native.Nat.{_≤_, _-_, _%_}
 use native.Mathlib.Nat.{zero-mod}
@@ -6,9 +6,9 @@ use native.Mathlib.Omega.{arith}
 use lib.ListN.{length, length-take, length-drop}
 use lib.Seq.{sets, take-all}
 use borrow.Author.Needs.{needs}
-use Rattle.convert.proofs.Splats.{Done, done-none, done-rest, turn}
-use Rattle.convert.proofs.splat_blocks.Statement.{statement}
-use Rattle.convert.proofs.splat_blocks.Tie as tie
+use Rattle.splat.proofs.Splats.{Done, done-none, done-rest, turn}
+use Rattle.splat.proofs.splat_blocks.Statement.{statement}
+use Rattle.splat.proofs.splat_blocks.Tie as tie
 
 abbrev Inv-loop : tie.InvT-loop
 Inv-loop dst₀ pixel block len at₀ dst at = (at ≤ length dst₀) × (length dst ≡ length dst₀) × (at % length pixel ≡ 0) × Done pixel dst at

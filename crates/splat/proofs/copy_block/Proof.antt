@@ -1,10 +1,10 @@
--- `convert::copy_block` meets its contract: the part is copied out, and then put at its place. Assumes nothing.
+-- `splat::copy_block` meets its contract: the part is copied out, and then put at its place. Assumes nothing.
 use Prim.Native.Nat.{_-_}
 use native.Mathlib.Omega.{arith}
 use borrow.Author.Needs.{needs}
-use Rattle.convert.proofs.Splats.{copied}
-use Rattle.convert.proofs.copy_block.Statement.{statement}
-use Rattle.convert.proofs.copy_block.Tie as tie
+use Rattle.splat.proofs.Splats.{copied}
+use Rattle.splat.proofs.copy_block.Statement.{statement}
+use Rattle.splat.proofs.copy_block.Tie as tie
 
 sub-from : tie.Need-sub-from
 sub-from c = search needs

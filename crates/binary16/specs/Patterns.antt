@@ -15,8 +15,8 @@ use lib.Ieee.Fits.{down-pos}
 use lib.Ieee.Nearest.{closest, closest-same, div-same}
 use borrow.Author.Tests.{le-leb, lt-leb, lt-ltb, le-ltb}
 use Rattle.words.specs.Tests.{pick, leb-same, split}
-use Rattle.convert.specs.Units.{unitsAt, unitsOf, units-lt, units-le}
-use Rattle.convert.specs.Half.{overflow, flushed, nearestHalf, magnitudeCode, codeOf}
+use Rattle.binary16.specs.Units.{unitsAt, unitsOf, units-lt, units-le}
+use Rattle.binary16.specs.Half.{overflow, flushed, nearestHalf, magnitudeCode, codeOf}
 
 -- ---- two names of one fraction have one code
 module _ (n d m c : ℕ) (D : 0 < d) (C : 0 < c) (e : n * c ≡ m * d) where

@@ -17,7 +17,7 @@ use borrow.Author.Tests.{leb-true, leb-false, ltb-true, ltb-false}
 use Rattle.words.specs.Tests.{pick, split}
 use Rattle.channels.specs.Nearest.{apart, NearestEven}
 use Rattle.channels.specs.Even.{rounds, closest-even}
-use Rattle.convert.specs.Units.{unitsOf, units-fields, units-lt}
+use Rattle.binary16.specs.Units.{unitsOf, units-fields, units-lt}
 
 -- the number of the binary16 code j without a sign, in units of 2^-24: its fraction has ten digits
 abbrev pub halfUnits : ℕ → ℕ

@@ -1,4 +1,4 @@
--- `convert::nearest_f16` meets its contract: by `rounded-code`, at the 13 digits that a normal number drops and the 126 - exponent of a subnormal one. Assumes nothing.
+-- `binary16::nearest_f16` meets its contract: by `rounded-code`, at the 13 digits that a normal number drops and the 126 - exponent of a subnormal one. Assumes nothing.
 use mathlib.Core.Path.{_≡_, sym, ap, _∙_}
 use Prim.Native.Nat.{ℕ, _+_, _*_, _-_, _/_, _%_, _^_, _≤_, _<_}
 use native.Mathlib.Nat.{zero-add}
@@ -6,10 +6,10 @@ use native.Mathlib.Omega.{arith}
 use lib.Ieee.{binary32, ofBits}
 use lib.Ieee.Nearest.{closest}
 use borrow.Author.Needs.{needs}
-use Rattle.convert.specs.Half.{codeOf, code-small}
-use Rattle.convert.specs.Patterns.{rounded-code}
-use Rattle.convert.proofs.nearest_f16.Statement.{statement}
-use Rattle.convert.proofs.nearest_f16.Tie as tie
+use Rattle.binary16.specs.Half.{codeOf, code-small}
+use Rattle.binary16.specs.Patterns.{rounded-code}
+use Rattle.binary16.proofs.nearest_f16.Statement.{statement}
+use Rattle.binary16.proofs.nearest_f16.Tie as tie
 
 cast-significand : tie.Need-cast-significand
 cast-significand c = search needs

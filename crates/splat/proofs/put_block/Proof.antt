@@ -1,13 +1,13 @@
--- `convert::put_block` meets its contract: after i turns the first i bytes of the other slice stand at the front. Assumes nothing.
+-- `splat::put_block` meets its contract: after i turns the first i bytes of the other slice stand at the front. Assumes nothing.
 use mathlib.Core.Path.{_≡_, refl, ap, _∙_}
 use Prim.Native.Nat.{_≤_, _-_}
 use native.Mathlib.Omega.{arith}
 use lib.ListN.{length, getD, set, take, length-set}
 use lib.Seq.{sets}
 use borrow.Author.Needs.{needs}
-use Rattle.convert.proofs.Splats.{block-turn}
-use Rattle.convert.proofs.put_block.Statement.{statement}
-use Rattle.convert.proofs.put_block.Tie as tie
+use Rattle.splat.proofs.Splats.{block-turn}
+use Rattle.splat.proofs.put_block.Statement.{statement}
+use Rattle.splat.proofs.put_block.Tie as tie
 
 abbrev Inv-loop : tie.InvT-loop
 Inv-loop out₀ src i₀ out i = (i ≤ 48) × (out ≡ sets out₀ 0 (take i src)) × (length out ≡ length out₀)

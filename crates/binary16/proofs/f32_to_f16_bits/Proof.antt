@@ -1,14 +1,14 @@
--- `convert::f32_to_f16_bits` meets its contract: the code by the pattern's range, with the sign above it. Assumes nothing.
+-- `binary16::f32_to_f16_bits` meets its contract: the code by the pattern's range, with the sign above it. Assumes nothing.
 use mathlib.Core.Path.{_≡_, refl, sym, ap, _∙_, subst}
 use Prim.Native.Nat.{ℕ, _+_, _*_, _/_, _%_, _≤_, _<_, _^_}
 use native.Mathlib.Nat.{add-zero}
 use native.Mathlib.Omega.{arith}
 use lib.Ieee.{binary32, ofBits}
 use borrow.Author.Needs.{needs}
-use Rattle.convert.specs.Half.{codeOf, code-small, halfOf, HalfOf, half-of, nearestHalf}
-use Rattle.convert.specs.Patterns.{nan-code, overflow-code, small-code, middle-code, floatUnits}
-use Rattle.convert.proofs.f32_to_f16_bits.Statement.{statement}
-use Rattle.convert.proofs.f32_to_f16_bits.Tie as tie
+use Rattle.binary16.specs.Half.{codeOf, code-small, halfOf, HalfOf, half-of, nearestHalf}
+use Rattle.binary16.specs.Patterns.{nan-code, overflow-code, small-code, middle-code, floatUnits}
+use Rattle.binary16.proofs.f32_to_f16_bits.Statement.{statement}
+use Rattle.binary16.proofs.f32_to_f16_bits.Tie as tie
 
 -- an answer with the sign and the code
 answer : (b k r : ℕ) → codeOf (ofBits binary32 b) ≡ k → r ≡ b / 2147483648 * 32768 + k → (r ≡ halfOf b) × HalfOf b r
