@@ -1,6 +1,2 @@
 -- What the proofs of several functions use.
-pub mod Patterns
-pub mod Coding
-pub mod Rows
-pub mod Arms
 pub mod Calls

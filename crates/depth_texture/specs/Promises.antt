@@ -3,7 +3,6 @@
 use mathlib.Core.Path.{_≡_}
 use mathlib.Core.Bool.{false}
 use mathlib.Core.List.{List}
-use mathlib.Core.Logic.{_⊎_}
 use Prim.Native.Nat.{ℕ, _<_}
 use lib.ListN.{length, getD}
 use lib.Dec.{eqb}
@@ -12,19 +11,16 @@ use Rattle.words.specs.Tests.{pick}
 use Rattle.formats.specs.Codes as codes
 use Rattle.formats.specs.Table.{bytesOf}
 use Rattle.depth_texture.specs.declared.PlaneLayout.{PlaneLayout}
-use Rattle.depth_texture.specs.Depth.{CodeFor}
-use Rattle.depth_texture.specs.Pixels.{hasStencil, maxCode, depthCode}
-use Rattle.depth_texture.specs.Pictures.{place, pixelIn, NoPixel}
+use Rattle.depth_pixels.specs.Depth.{CodeFor}
+use Rattle.depth_pixels.specs.Pixels.{hasStencil, maxCode, depthCode}
+use Rattle.depth_pixels.specs.Pictures.{place, pixelIn, NoPixel}
 use Rattle.depth_texture.specs.Replies.{refusalOf}
-use Rattle.depth_texture.specs.Planes.{depthAt, packedBuffer}
+use Rattle.depth_pixels.specs.PixelBytes.{depthAt}
+use Rattle.depth_texture.specs.Planes.{packedBuffer}
 
 -- the refusal of two calls, where the second is made only if the first is accepted
 abbrev pub firstRefusal : ℕ → ℕ → ℕ
 firstRefusal a b = pick (eqb a 0) b a
-
--- a format that stores every bit of a pixel in the planes: D24X8 does not, since its X is dropped
-abbrev pub KeepsAll : ℕ → Type 0
-KeepsAll f = (f ≡ codes.D16) ⊎ (f ≡ codes.D24S8)
 
 -- every pixel of a second packed buffer holds the bytes that it has in the first
 abbrev pub SamePixels : (f : ℕ) → PlaneLayout → (first : List ℕ) (pitch : ℕ) (second : List ℕ) (pitch₂ : ℕ) → Type 0

@@ -11,8 +11,8 @@ use Rattle.words.specs.Tests.{pick, and-left, and-right, leb-same}
 use Rattle.depth_texture.specs.declared.PlaneLayout.{PlaneLayout}
 use Rattle.formats.specs.Table.{bytesOf}
 use Rattle.words.specs.Multiples.{raised, Raised, raised-is}
-use Rattle.depth_texture.specs.Pixels.{isPackedDepth, hasStencil}
-use Rattle.depth_texture.specs.Pictures.{RowIn, rows-in, plane-in}
+use Rattle.depth_pixels.specs.Pixels.{isPackedDepth, hasStencil}
+use Rattle.depth_pixels.specs.Pictures.{RowIn, rows-in, plane-in}
 use Rattle.depth_texture.specs.declared.PlaneLayoutAnswer.{PlaneLayoutAnswer}
 use Rattle.depth_texture.specs.declared.PlaneLayoutAnswer.the-variants.{Layout, ZeroSize, NoPowerOfTwo, Over64Bits}
 use Rattle.depth_texture.specs.Layouts.{limit, layout, aligned, isPowerOfTwo, isEmpty, planesFit, layoutRefusal, layoutFor, answerNumber, answerLayout, Stands, stands, Pitches}

@@ -11,7 +11,7 @@ use Rattle.depth_texture.specs.declared.DepthReply.{DepthReply}
 use Rattle.depth_texture.specs.declared.DepthReply.the-variants.{Accepted, NotPackedDepth, BadLayout, ShortPacked, ShortDepth, ShortStencil}
 use Rattle.depth_texture.specs.declared.DepthCheck.{DepthCheck}
 use Rattle.depth_texture.specs.declared.DepthCheck.the-variants.{Depth, Refused}
-use Rattle.depth_texture.specs.Pixels.{formatCode, isPackedDepth, hasStencil}
+use Rattle.depth_pixels.specs.Pixels.{formatCode, isPackedDepth, hasStencil}
 use Rattle.depth_texture.specs.Layouts.{stands, Stands}
 
 -- document 01's number for each reply

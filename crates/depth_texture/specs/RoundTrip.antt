@@ -18,17 +18,18 @@ use lib.Ieee.Bits.{ofBits-toBits, toBits-lt}
 use Rattle.words.specs.Little.{number, bytes, Small, small-take, small-drop, length-bytes, number-bytes, number-lt, bytes-number}
 use Rattle.words.specs.Tests.{pick}
 use Rattle.formats.specs.Table.{bytesOf}
-use Rattle.depth_texture.specs.declared.PackedDepth.{PackedDepth}
+use Rattle.depth_pixels.specs.declared.PackedDepth.{PackedDepth}
 use Rattle.depth_texture.specs.declared.PlaneLayout.{PlaneLayout}
-use Rattle.depth_texture.specs.Depth.{depthOf, codeFor, CodeFor}
-use Rattle.depth_texture.specs.Restoration.{code-for, restored}
-use Rattle.depth_texture.specs.Pixels.{formatCode, isPackedDepth, hasStencil, maxCode, depthCode, stencilCode, decoded, pixelWord, encoded}
-use Rattle.depth_texture.specs.PackedFormats.{format-of, Sizes, sizes, depth-code-le, stencil-lt, depth-held, word-lt, word-restored, no-stencil}
-use Rattle.depth_texture.specs.Pictures.{place, pixelIn, written, written-own, written-other}
+use Rattle.depth_pixels.specs.Depth.{depthOf, codeFor, CodeFor}
+use Rattle.depth_pixels.specs.Restoration.{code-for, restored}
+use Rattle.depth_pixels.specs.Pixels.{formatCode, isPackedDepth, hasStencil, maxCode, depthCode, stencilCode, decoded, pixelWord, encoded, KeepsAll}
+use Rattle.depth_pixels.specs.PackedFormats.{format-of, Sizes, sizes, depth-code-le, stencil-lt, depth-held, word-lt, word-restored, no-stencil}
+use Rattle.depth_pixels.specs.Pictures.{place, pixelIn, written, written-own, written-other}
 use Rattle.depth_texture.specs.Replies.{refusalOf, Accepts}
 use Rattle.depth_texture.specs.Refusals.{accepts, RowsWithin, rows-within}
-use Rattle.depth_texture.specs.Planes.{wordAt, depthAt, depthBytes, stencilBytes, stencilAt, packedBytes, depthPlane, stencilPlane, packedPixels, unpackedDepth, unpackedStencil, packedBuffer}
-use Rattle.depth_texture.specs.Promises.{KeepsAll, Restores, SameElsewhere, PlanesKept}
+use Rattle.depth_pixels.specs.PixelBytes.{wordAt, depthAt, depthBytes, stencilBytes, stencilAt, packedBytes}
+use Rattle.depth_texture.specs.Planes.{depthPlane, stencilPlane, packedPixels, unpackedDepth, unpackedStencil, packedBuffer}
+use Rattle.depth_texture.specs.Promises.{Restores, SameElsewhere, PlanesKept}
 
 -- a fact of each format is one of each known code
 pub known : (P : ℕ → Type 0) → ((d : PackedDepth) → P (formatCode d)) → (f : ℕ) → isPackedDepth f ≡ true → P f

@@ -12,11 +12,12 @@ use Rattle.pixel_convert.specs.declared.ConvertRegion.{ConvertRegion}
 use Rattle.pixel_convert.specs.Regions.{convertedBytes, NearSource}
 use Rattle.pixel_convert.specs.Promises.{near-source}
 use Rattle.depth_texture.specs.declared.PlaneLayout.{PlaneLayout}
-use Rattle.depth_texture.specs.Pixels.{hasStencil}
+use Rattle.depth_pixels.specs.Pixels.{hasStencil, KeepsAll}
 use Rattle.depth_texture.specs.Replies.{refusalOf}
 use Rattle.depth_texture.specs.Refusals.{accepts}
-use Rattle.depth_texture.specs.Planes.{stencilAt, unpackedDepth, unpackedStencil, packedBuffer}
-use Rattle.depth_texture.specs.Promises.{KeepsAll, Restores, NearestCodes}
+use Rattle.depth_pixels.specs.PixelBytes.{stencilAt}
+use Rattle.depth_texture.specs.Planes.{unpackedDepth, unpackedStencil, packedBuffer}
+use Rattle.depth_texture.specs.Promises.{Restores, NearestCodes}
 use Rattle.depth_texture.specs.RoundTrip.{unpacked-accepted, packed-accepted, nearest-packed, round-trip}
 
 -- a list of bytes

@@ -13,7 +13,8 @@ use Rattle.pixel_convert.specs.Regions as regions
 use Rattle.depth_texture.specs.declared.PlaneLayout.{PlaneLayout}
 use Rattle.depth_texture.specs.Replies.{refusalOf}
 use Rattle.depth_texture.specs.Planes.{packedBuffer}
-use Rattle.depth_texture.specs.Promises.{firstRefusal, KeepsAll, Restores, SamePixels}
+use Rattle.depth_pixels.specs.Pixels.{KeepsAll}
+use Rattle.depth_texture.specs.Promises.{firstRefusal, Restores, SamePixels}
 
 -- ---- a refused conversion
 unaccepted : {A : Type 0} (q : ConvertReply) (a b : A) → 0 < regions.replyNumber q → regions.ifAccepted q a b ≡ b

@@ -27,15 +27,16 @@ use Rattle.binary16.specs.Half as binary16
 use Rattle.binary16.specs.Half.{halfOf}
 use Rattle.convert.specs.Fill as fill
 use Rattle.convert.specs.Fill.{fillOf}
-use Rattle.depth_texture.specs.Depth as depth
+use Rattle.depth_pixels.specs.Depth as depth
 use Rattle.words.specs.Multiples as multiples
 use Rattle.depth_texture.specs.Layouts as layouts
 use Rattle.depth_texture.specs.Layouts.{layout, layoutRefusal, layoutFor}
-use Rattle.depth_texture.specs.Pixels as pixels
+use Rattle.depth_pixels.specs.Pixels as pixels
 use Rattle.depth_texture.specs.Replies as replies
-use Rattle.depth_texture.specs.Pictures as pictures
+use Rattle.depth_pixels.specs.Pictures as pictures
+use Rattle.depth_pixels.specs.PixelBytes as pixelBytes
 use Rattle.depth_texture.specs.Planes as planes
-use Rattle.depth_texture.specs.Pixels.{depthCode}
+use Rattle.depth_pixels.specs.Pixels.{depthCode}
 use Rattle.depth_texture.specs.Planes.{packedBuffer}
 use Rattle.planar_yuv.specs.Rules as rules
 use Rattle.planar_yuv.specs.Offsets as offsets
@@ -146,6 +147,6 @@ unfolding integers.clampTo
     pixels.isPackedDepth pixels.hasStencil pixels.maxCode pixels.depthCode pixels.pixelWord pixels.encoded
     replies.packedHolds replies.stencilHolds replies.refusalOf
     pictures.writtenRow pictures.written
-    planes.depthAt planes.stencilAt planes.packedBytes planes.packedPixels planes.packedBuffer
+    pixelBytes.depthAt pixelBytes.stencilAt pixelBytes.packedBytes planes.packedPixels planes.packedBuffer
     ieee.div ieee.ofInt ieee.ofBits ieee.toBits
 worked-table = refl

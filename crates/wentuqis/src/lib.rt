@@ -19,7 +19,8 @@ ghost use Rattle.depth_texture.specs.Layouts.{layout, layoutRefusal, layoutFor,
 ghost use Rattle.depth_texture.specs.Replies as depths;
 ghost use Rattle.depth_texture.specs.Replies.{refusalOf};
 ghost use Rattle.depth_texture.specs.Planes.{unpackedDepth, unpackedStencil, packedBuffer};
-ghost use Rattle.depth_texture.specs.Promises.{firstRefusal, KeepsAll, Restores, SamePixels, PlanesKept, SameElsewhere, NearestCodes};
+ghost use Rattle.depth_pixels.specs.Pixels.{KeepsAll};
+ghost use Rattle.depth_texture.specs.Promises.{firstRefusal, Restores, SamePixels, PlanesKept, SameElsewhere, NearestCodes};
 ghost use Rattle.wentuqis.specs.Calls.{regionOf, rgbList, colourIn, planarValues, PlanesApart, planeValues, planesIn};
 use convert::FillReply;
 use depth_texture::DepthReply;

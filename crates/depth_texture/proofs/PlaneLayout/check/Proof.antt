@@ -1,7 +1,7 @@
 -- `depth_texture::PlaneLayout::check` meets its contract: a code of no packed depth format is refused first. Assumes nothing.
 use mathlib.Core.Path.{_≡_, subst}
 use lib.Dec.{lit<}
-use Rattle.depth_texture.specs.Pixels.{formatCode, StandsFor}
+use Rattle.depth_pixels.specs.Pixels.{formatCode, StandsFor}
 use Rattle.depth_texture.specs.Replies.{refusalOf, Checked}
 use Rattle.depth_texture.specs.Refusals.{refused-9, found}
 use borrow.Author.Needs.{needs}

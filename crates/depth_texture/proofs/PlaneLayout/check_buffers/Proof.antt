@@ -3,8 +3,8 @@ use mathlib.Core.Path.{_≡_, refl, sym, _∙_}
 use mathlib.Core.Bool.{true}
 use lib.Dec.{lit<}
 use borrow.Author.Tests.{not-true, not-false}
-use Rattle.depth_texture.specs.Pixels.{formatCode}
-use Rattle.depth_texture.specs.PackedFormats.{packed-known}
+use Rattle.depth_pixels.specs.Pixels.{formatCode}
+use Rattle.depth_pixels.specs.PackedFormats.{packed-known}
 use Rattle.depth_texture.specs.Layouts.{stands}
 use Rattle.depth_texture.specs.Replies.{packedHolds, planeHolds}
 use Rattle.depth_texture.specs.Refusals.{stands-holds, refused-10, refused-11, refused-12, refused-13, not-refused, found}

@@ -9,8 +9,8 @@ use borrow.Author.Tests.{le-leb, lt-leb}
 use Rattle.words.specs.Tests.{and-out, leb-same}
 use Rattle.formats.specs.Table.{bytesOf}
 use Rattle.depth_texture.specs.declared.PlaneLayout.{PlaneLayout}
-use Rattle.depth_texture.specs.Pixels.{formatCode}
-use Rattle.depth_texture.specs.PackedFormats.{sizes}
+use Rattle.depth_pixels.specs.Pixels.{formatCode}
+use Rattle.depth_pixels.specs.PackedFormats.{sizes}
 use Rattle.depth_texture.specs.Replies.{packedHolds}
 use borrow.Author.Needs.{needs}
 use Rattle.depth_texture.proofs.PlaneLayout.packed_holds.Statement.{statement}

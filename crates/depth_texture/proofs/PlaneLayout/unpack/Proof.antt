@@ -3,7 +3,7 @@ use mathlib.Core.Path.{_≡_, ap, _∙_, subst}
 use native.Mathlib.Omega.{arith}
 use lib.ListN.{length}
 use denote.Ref.{now}
-use Rattle.depth_texture.specs.Pixels.{formatCode}
+use Rattle.depth_pixels.specs.Pixels.{formatCode}
 use Rattle.depth_texture.specs.Replies.{refusalOf, Checked}
 use Rattle.depth_texture.specs.Planes.{depthPlane, stencilPlane}
 use Rattle.depth_texture.proofs.Calls.{accepted-as, unpack-refused, unpack-accepted}

@@ -1,0 +1,5 @@
+-- What the proofs of several functions use.
+pub mod Patterns
+pub mod Coding
+pub mod Rows
+pub mod Arms
