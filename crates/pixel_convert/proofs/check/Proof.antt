@@ -2,7 +2,7 @@
 use mathlib.Core.Path.{_≡_, refl, sym, _∙_}
 use mathlib.Core.Bool.{true, false}
 use borrow.Author.Tests.{not-true, not-false}
-use Rattle.pixel_convert.specs.Regions.{canConvert, badPlanarShape, isEmpty, sourceInside, replyTo}
+use Rattle.pixel_convert.specs.Regions.{canConvert, badPlanarShape, isEmpty, sourceInside, destinationInside, replyTo}
 use Rattle.pixel_convert.specs.Answers.{convert-picture, rgb-picture}
 use Rattle.pixel_convert.specs.Promises.{convert-rgb}
 use borrow.Author.Needs.{needs}
@@ -30,6 +30,16 @@ some c = sym (c .before .is-empty .ensures) ∙ c .if3 .left
 
 source : (c : tie.Else4) → sourceInside (past-pair (past-shape (past-empty c)) .before .before .args .src-len) (past-pair (past-shape (past-empty c)) .before .before .args .src-format) (past-pair (past-shape (past-empty c)) .before .before .args .region) ≡ true
 source c = sym (c .before .source-inside .ensures) ∙ not-false _ (c .if4 .left)
+
+-- the destination's test, passed and failed
+abbrev past-source : tie.Else5 → tie.Else4
+past-source c = c .before .before
+
+destination : (c : tie.Else5) → destinationInside (past-pair (past-shape (past-empty (past-source c))) .before .before .args .dst-len) (past-pair (past-shape (past-empty (past-source c))) .before .before .args .dst-format) (past-pair (past-shape (past-empty (past-source c))) .before .before .args .region) ≡ true
+destination c = sym (c .before .destination-inside .ensures) ∙ not-false _ (c .if5 .left)
+
+no-destination : (c : tie.Then5) → destinationInside (past-pair (past-shape (past-empty (c .before .before))) .before .before .args .dst-len) (past-pair (past-shape (past-empty (c .before .before))) .before .before .args .dst-format) (past-pair (past-shape (past-empty (c .before .before))) .before .before .args .region) ≡ false
+no-destination c = sym (c .before .destination-inside .ensures) ∙ not-true _ (c .if5 .taken)
 
 can-convert-requires : tie.Need-can-convert-requires
 can-convert-requires c κs = search needs
@@ -75,7 +85,7 @@ returns-5 c =
     let e = c .before .before in
     let f = past-empty e in
     let g = past-shape f in
-    rw (pair (past-pair g), shape g, some f, source e, sym (c .before .destination-inside .ensures) ∙ not-true _ (c .if5 .taken)) refl
+    rw (pair (past-pair g), shape g, some f, source e, no-destination c) refl
 
 returns-6 : tie.Need-returns-6
 unfolding replyTo
@@ -83,7 +93,7 @@ returns-6 c =
     let e = c .before .before in
     let f = past-empty e in
     let g = past-shape f in
-    rw (pair (past-pair g), shape g, some f, source e, sym (c .before .destination-inside .ensures) ∙ not-false _ (c .if5 .left)) refl
+    rw (pair (past-pair g), shape g, some f, source e, destination c) refl
 
 pub check-spec : {M : Type 1} → statement M
 check-spec =
