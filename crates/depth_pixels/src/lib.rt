@@ -194,12 +194,16 @@ fn encode_d16(value: DepthStencil, pixel: &mut [u8])
     put16(pixel, code_of(65535, value.depth) as u16);
 }
 
-// D24X8: the word is the code, which leaves the unused byte 0.
+// What packing writes into D24X8's unused byte.
+const UNUSED: u32 = 0;
+
+// D24X8: the code below the unused byte.
 fn encode_d24x8(value: DepthStencil, pixel: &mut [u8])
     requires { ⌜ (4 ≤ length (now pixel)) × T (not (isNan (value .depth))) ⌝ }
     ensures { λ _. ⌜ now (pixel .exit) ≡ sets (now (pixel .entry)) 0 (encoded codes.D24X8 value) ⌝ }
 {
-    put32(pixel, code_of(16777215, value.depth) as u32);
+    let code = code_of(16777215, value.depth) as u32;
+    put32(pixel, UNUSED * 0x100_0000 + code);
 }
 
 // D24S8: the stencil byte, and above it the code's bytes from the lowest one on.

@@ -54,18 +54,25 @@ pub enum DepthReply {
 }
 
 impl DepthReply {
+    // Document 01's number of the reply.
+    pub fn number(self) -> u32
+        ensures { λ r. ⌜ r ≡ replyNumber self ⌝ }
+    {
+        match self {
+            DepthReply::Accepted => 0,
+            DepthReply::NotPackedDepth => 9,
+            DepthReply::BadLayout => 10,
+            DepthReply::ShortPacked => 11,
+            DepthReply::ShortDepth => 12,
+            DepthReply::ShortStencil => 13,
+        }
+    }
+
     // Whether the reply is no refusal.
     pub fn is_accepted(self) -> bool
         ensures { λ r. ⌜ r ≡ eqb (replyNumber self) 0 ⌝ }
     {
-        match self {
-            DepthReply::Accepted => true,
-            DepthReply::NotPackedDepth => false,
-            DepthReply::BadLayout => false,
-            DepthReply::ShortPacked => false,
-            DepthReply::ShortDepth => false,
-            DepthReply::ShortStencil => false,
-        }
+        self.number() == 0
     }
 }
 

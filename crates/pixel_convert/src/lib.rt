@@ -50,17 +50,24 @@ pub enum ConvertReply {
 }
 
 impl ConvertReply {
+    // Document 01's number of the reply.
+    pub fn number(self) -> u32
+        ensures { λ r. ⌜ r ≡ replyNumber self ⌝ }
+    {
+        match self {
+            ConvertReply::Accepted => 0,
+            ConvertReply::Unsupported => 1,
+            ConvertReply::PlanarShape => 2,
+            ConvertReply::SourceOutside => 3,
+            ConvertReply::DestinationOutside => 4,
+        }
+    }
+
     // Whether the reply is no refusal.
     pub fn is_accepted(self) -> bool
         ensures { λ r. ⌜ r ≡ eqb (replyNumber self) 0 ⌝ }
     {
-        match self {
-            ConvertReply::Accepted => true,
-            ConvertReply::Unsupported => false,
-            ConvertReply::PlanarShape => false,
-            ConvertReply::SourceOutside => false,
-            ConvertReply::DestinationOutside => false,
-        }
+        self.number() == 0
     }
 }
 

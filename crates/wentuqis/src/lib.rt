@@ -23,11 +23,9 @@ ghost use Rattle.depth_pixels.specs.Pixels.{KeepsAll};
 ghost use Rattle.depth_texture.specs.Promises.{firstRefusal, Restores, SamePixels, PlanesKept, SameElsewhere, NearestCodes};
 ghost use Rattle.wentuqis.specs.Calls.{regionOf, rgbList, colourIn, planarValues, PlanesApart, planeValues, planesIn};
 use convert::FillReply;
-use depth_texture::DepthReply;
 use depth_texture::PlaneLayout;
 use depth_texture::PlaneLayoutAnswer;
 use pixel_convert::ConvertRegion;
-use pixel_convert::ConvertReply;
 use planar_yuv::PlanarYuvAnswer;
 
 // ---- conversion
@@ -46,18 +44,6 @@ pub extern "C" fn wentuqis_can_convert_update(src_format: u32, dst_format: u32) 
     ensures { λ r. ⌜ r ≡ canConvertUpdate «src_format» «dst_format» ⌝ }
 {
     pixel_convert::can_convert_update(src_format, dst_format)
-}
-
-fn convert_number(reply: ConvertReply) -> u32
-    ensures { λ r. ⌜ r ≡ replyNumber reply ⌝ }
-{
-    match reply {
-        ConvertReply::Accepted => 0,
-        ConvertReply::Unsupported => 1,
-        ConvertReply::PlanarShape => 2,
-        ConvertReply::SourceOutside => 3,
-        ConvertReply::DestinationOutside => 4,
-    }
 }
 
 // Refusals 1 to 4.
@@ -97,7 +83,8 @@ pub extern "C" fn wentuqis_convert_region(
         dst_slice_pitch,
         depth,
     };
-    convert_number(pixel_convert::convert_region(dst, dst_format, src, src_format, region))
+    let reply = pixel_convert::convert_region(dst, dst_format, src, src_format, region);
+    reply.number()
 }
 
 // ---- YUV
@@ -274,19 +261,6 @@ pub extern "C" fn wentuqis_plane_layout(
     put_planes(PlaneLayout::new(width, height, alignment), layout)
 }
 
-fn depth_number(reply: DepthReply) -> u32
-    ensures { λ r. ⌜ r ≡ depths.replyNumber reply ⌝ }
-{
-    match reply {
-        DepthReply::Accepted => 0,
-        DepthReply::NotPackedDepth => 9,
-        DepthReply::BadLayout => 10,
-        DepthReply::ShortPacked => 11,
-        DepthReply::ShortDepth => 12,
-        DepthReply::ShortStencil => 13,
-    }
-}
-
 // Refusals 9 to 13.
 #[no_mangle]
 pub extern "C" fn wentuqis_unpack(
@@ -311,7 +285,8 @@ pub extern "C" fn wentuqis_unpack(
         depth_pitch,
         stencil_pitch,
     };
-    depth_number(layout.unpack(format, packed, packed_pitch, depth, stencil))
+    let reply = layout.unpack(format, packed, packed_pitch, depth, stencil);
+    reply.number()
 }
 
 // Refusals 9 to 13.
@@ -338,7 +313,8 @@ pub extern "C" fn wentuqis_pack(
         depth_pitch,
         stencil_pitch,
     };
-    depth_number(layout.pack(format, depth, stencil, packed, packed_pitch))
+    let reply = layout.pack(format, depth, stencil, packed, packed_pitch);
+    reply.number()
 }
 
 // ---- what a viewer relies on, by the contracts of the calls above alone; no part of the library

@@ -8,8 +8,8 @@ use Rattle.wentuqis.proofs.wentuqis_convert_region.Tie as tie
 convert-region-requires : tie.Need-convert-region-requires
 convert-region-requires c κs = search needs
 
-convert-number-requires : tie.Need-convert-number-requires
-convert-number-requires c κs = search needs
+number-requires : tie.Need-number-requires
+number-requires c κs = search needs
 
 same-length : tie.Need-same-length
 same-length c = search needs
@@ -17,8 +17,8 @@ same-length c = search needs
 returns : tie.Need-returns
 returns c =
     let e = c .before .before .before .convert-region .ensures in
-    (c .convert-number .ensures ∙ ap replyNumber (e .0), e .1)
+    (c .number .ensures ∙ ap replyNumber (e .0), e .1)
 
 pub wentuqis-convert-region-spec : {M : Type 1} → statement M
 wentuqis-convert-region-spec =
-    tie.close (tie.spec convert-region-requires convert-number-requires same-length returns)
+    tie.close (tie.spec convert-region-requires number-requires same-length returns)

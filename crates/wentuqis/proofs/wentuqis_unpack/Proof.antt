@@ -7,8 +7,8 @@ use Rattle.wentuqis.proofs.wentuqis_unpack.Tie as tie
 unpack-requires : tie.Need-unpack-requires
 unpack-requires c κs = search needs
 
-depth-number-requires : tie.Need-depth-number-requires
-depth-number-requires c κs = search needs
+number-requires : tie.Need-number-requires
+number-requires c κs = search needs
 
 same-length : tie.Need-same-length
 same-length c = search needs
@@ -19,9 +19,9 @@ same-length-2 c = search needs
 returns : tie.Need-returns
 returns c =
     let e = c .before .before .before .before .before .unpack .ensures in
-    let n = c .depth-number .ensures in
+    let n = c .number .ensures in
     (n ∙ e .0, (e .1 .0, ((λ z. e .1 .1 .0 (sym n ∙ z)), e .1 .1 .1)))
 
 pub wentuqis-unpack-spec : {M : Type 1} → statement M
 wentuqis-unpack-spec =
-    tie.close (tie.spec unpack-requires depth-number-requires same-length same-length-2 returns)
+    tie.close (tie.spec unpack-requires number-requires same-length same-length-2 returns)

@@ -1,52 +1,16 @@
--- `pixel_convert::ConvertReply::is_accepted` meets its contract: each reply has its number. Assumes nothing.
-use mathlib.Core.Path.{sym, ap}
+-- `pixel_convert::ConvertReply::is_accepted` meets its contract: the number is 0 or not. Assumes nothing.
+use mathlib.Core.Path.{ap}
+use Prim.Native.Nat.{ℕ}
 use lib.Dec.{eqb}
-use Rattle.pixel_convert.specs.Regions.{replyNumber}
 use borrow.Author.Needs.{needs}
 use Rattle.pixel_convert.proofs.ConvertReply.is_accepted.Statement.{statement}
 use Rattle.pixel_convert.proofs.ConvertReply.is_accepted.Tie as tie
 
-enum-told : tie.Need-enum-told
-enum-told c = search needs
-
-enum-told-2 : tie.Need-enum-told-2
-enum-told-2 c = search needs
-
-enum-told-3 : tie.Need-enum-told-3
-enum-told-3 c = search needs
-
-enum-told-4 : tie.Need-enum-told-4
-enum-told-4 c = search needs
-
-enum-told-5 : tie.Need-enum-told-5
-enum-told-5 c = search needs
+number-requires : tie.Need-number-requires
+number-requires c κs = search needs
 
 returns : tie.Need-returns
-returns c = sym (ap (λ r. eqb (replyNumber r) 0) (c .enum-told .given .1))
-
-returns-2 : tie.Need-returns-2
-returns-2 c = sym (ap (λ r. eqb (replyNumber r) 0) (c .enum-told2 .given .1))
-
-returns-3 : tie.Need-returns-3
-returns-3 c = sym (ap (λ r. eqb (replyNumber r) 0) (c .enum-told3 .given .1))
-
-returns-4 : tie.Need-returns-4
-returns-4 c = sym (ap (λ r. eqb (replyNumber r) 0) (c .enum-told4 .given .1))
-
-returns-5 : tie.Need-returns-5
-returns-5 c = sym (ap (λ r. eqb (replyNumber r) 0) (c .enum-told5 .given .1))
+returns c = ap (λ (n : ℕ). eqb n 0) (c .number .ensures)
 
 pub is-accepted-spec : {M : Type 1} → statement M
-is-accepted-spec =
-    tie.close
-    (tie.spec
-    enum-told
-    enum-told-2
-    enum-told-3
-    enum-told-4
-    enum-told-5
-    returns
-    returns-2
-    returns-3
-    returns-4
-    returns-5)
+is-accepted-spec = tie.close (tie.spec number-requires returns)
