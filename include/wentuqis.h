@@ -66,12 +66,15 @@ enum {
     /* the two wide sources, which convert into A8R8G8B8 only; both can be filled */
     WENTUQIS_FMT_A16B16G16R16 = 36,
     WENTUQIS_FMT_A32B32G32R32F = 116,
-    /* twelve more that can be filled, which makes 24 with the above; U, V, W, Q are signed red, green, blue, alpha */
+    /* six more sources, which convert into A8R8G8B8 only; all but L16 can be filled; U, V, W, Q are signed red, green,
+     * blue, alpha, here and below */
     WENTUQIS_FMT_A2B10G10R10 = 31,
     WENTUQIS_FMT_G16R16 = 34,
     WENTUQIS_FMT_A2R10G10B10 = 35,
     WENTUQIS_FMT_V8U8 = 60,
     WENTUQIS_FMT_Q8W8V8U8 = 63,
+    WENTUQIS_FMT_L16 = 81,
+    /* seven more that can be filled, which makes 24 with the above */
     WENTUQIS_FMT_V16U16 = 64,
     WENTUQIS_FMT_Q16W16V16U16 = 110,
     WENTUQIS_FMT_R16F = 111,
@@ -115,15 +118,17 @@ enum {
 };
 
 /* Whether wentuqis_convert_region takes this pair: the twelve RGB formats into each other, the four YUV formats into
- * these, the two wide formats into A8R8G8B8. */
+ * these, the two wide formats and the six from A2B10G10R10 to L16 into A8R8G8B8. */
 bool wentuqis_can_convert(uint32_t src_format, uint32_t dst_format);
 
 /* The pairs that UpdateSurface and UpdateTexture take:
- * those of wentuqis_can_convert without planar and wide sources. */
+ * those of wentuqis_can_convert without planar sources and without those that convert into A8R8G8B8 only. */
 bool wentuqis_can_convert_update(uint32_t src_format, uint32_t dst_format);
 
 /* Converts width x height x depth texels of src into dst by slice, row, column; the last of overlapping texels stands,
- * X is written as ones. Refusals 1 to 4; with width, height or depth 0 neither 3 nor 4, and nothing is written. */
+ * X is written as ones. In the six sources from A2B10G10R10 to L16 an unsigned code gives the nearest byte, a signed n
+ * the nearest to 255n/127, and 0 if at or below zero; L16 fills red, green and blue; a channel that is lacking is 255.
+ * Refusals 1 to 4; with width, height or depth 0 neither 3 nor 4, and nothing is written. */
 uint32_t wentuqis_convert_region(uint8_t *dst, size_t dst_len, uint32_t dst_format,
                                  const uint8_t *src, size_t src_len, uint32_t src_format,
                                  uint32_t src_x, uint32_t src_y, uint32_t dst_x, uint32_t dst_y,

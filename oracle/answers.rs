@@ -1,4 +1,5 @@
-//! What the original answers to a call, for those who record its answers and those who compare.
+//! What the original answers to a call, for those who record its answers and those who compare. It
+//! is not asked of the pairs that document 02 adds: paper.rs and stills.rs answer for these.
 
 use original::{
     depth_texture::{PackedDepth, PlaneLayout},
@@ -9,8 +10,13 @@ use original::{
 use crate::{
     calls::{ConvertCall, DepthCall},
     common::{Planes, Region},
-    paper,
+    paper, stills,
 };
+
+/// Whether a pair of formats converts.
+pub fn pair(src_format: u32, dst_format: u32) -> bool {
+    paper::is_added(src_format, dst_format) || pixel_convert::can_convert(src_format, dst_format)
+}
 
 /// The turns of its loops, an empty region's too.
 pub fn effort(region: &Region) -> u128 {
@@ -28,6 +34,9 @@ pub fn can_convert(call: &ConvertCall, reply: u32, ends: impl FnOnce() -> bool) 
 
 /// Whether it accepts, and its destination.
 pub fn convert(call: &ConvertCall) -> (bool, Vec<u8>) {
+    if paper::is_added(call.src_format, call.dst_format) {
+        return stills::convert(call);
+    }
     let mut dst = call.dst.clone();
     let accepted = pixel_convert::convert_region(
         &mut dst,

@@ -3,9 +3,10 @@
 //! texels, in nanoseconds a texel, on one thread: every work, or those whose name has one of the
 //! words. Each row of the table is one piece of work and each column a route that does it; `ours`,
 //! and its ratio to the original, stand where the port is linked, and `memcpy` copies as many
-//! bytes as the work writes. A number is the median of rounds in which the routes take turns, so
-//! that a slow moment of the machine falls on all of them. With --markdown the table is also
-//! written to FILE, which keeps what it has from its first line `## ..` on.
+//! bytes as the work writes. The original has no number where it refuses. A number is the median of
+//! rounds in which the routes take turns, so that a slow moment of the machine falls on all of
+//! them. With --markdown the table is also written to FILE, which keeps what it has from its first
+//! line `## ..` on.
 
 mod common;
 mod paper;
@@ -44,7 +45,7 @@ const COLUMNS: &[&str] = if cfg!(port) {
 };
 
 /// Source and destination of each conversion.
-const CONVERSIONS: [(&str, &str); 21] = [
+const CONVERSIONS: [(&str, &str); 27] = [
     ("A8R8G8B8", "X8R8G8B8"),
     ("A8R8G8B8", "A8B8G8R8"),
     ("A8R8G8B8", "R8G8B8"),
@@ -66,6 +67,12 @@ const CONVERSIONS: [(&str, &str); 21] = [
     ("YV12", "X8R8G8B8"),
     ("A16B16G16R16", "A8R8G8B8"),
     ("A32B32G32R32F", "A8R8G8B8"),
+    ("A2R10G10B10", "A8R8G8B8"),
+    ("A2B10G10R10", "A8R8G8B8"),
+    ("G16R16", "A8R8G8B8"),
+    ("L16", "A8R8G8B8"),
+    ("V8U8", "A8R8G8B8"),
+    ("Q8W8V8U8", "A8R8G8B8"),
 ];
 
 /// The packed depth formats, each unpacked and packed.
@@ -104,8 +111,11 @@ fn heading() -> String {
     )
 }
 
-/// A name, and a number for each of COLUMNS.
-type Row = (String, Vec<f64>);
+/// A number for each of COLUMNS; none where a route refuses.
+type Numbers = Vec<Option<f64>>;
+
+/// A name and its numbers.
+type Row = (String, Numbers);
 
 /// Does the works that are asked for and prints each as it is done.
 fn table(words: &[String]) -> Vec<Row> {
@@ -115,7 +125,10 @@ fn table(words: &[String]) -> Vec<Row> {
     for (name, work) in works() {
         if words.is_empty() || words.iter().any(|word| name.contains(word)) {
             let numbers = work();
-            let cells: String = numbers.iter().map(|it| format!("{it:15.2}")).collect();
+            let cells: String = numbers
+                .iter()
+                .map(|it| format!("{:>15}", cell(*it)))
+                .collect();
             println!("{name:30}{cells}");
             rows.push((name, numbers));
         }
@@ -123,8 +136,12 @@ fn table(words: &[String]) -> Vec<Row> {
     rows
 }
 
+fn cell(number: Option<f64>) -> String {
+    number.map_or("-".to_string(), |it| format!("{it:.2}"))
+}
+
 /// A name, and what measures it.
-type Work = (String, Box<dyn Fn() -> Vec<f64>>);
+type Work = (String, Box<dyn Fn() -> Numbers>);
 
 fn works() -> Vec<Work> {
     let mut works: Vec<Work> = Vec::new();
@@ -146,49 +163,54 @@ fn works() -> Vec<Work> {
     works
 }
 
-/// The routes of one work, in the order of COLUMNS.
-struct Routes<'a>(Vec<Box<dyn FnMut() + 'a>>);
+/// The routes of one work, in the order of COLUMNS; none in the place of one that refuses.
+struct Routes<'a>(Vec<Option<Box<dyn FnMut() + 'a>>>);
 
 impl<'a> Routes<'a> {
     fn original(route: impl FnMut() + 'a) -> Self {
-        Self(vec![Box::new(route)])
+        Self(vec![Some(Box::new(route))])
+    }
+
+    fn without_original() -> Self {
+        Self(vec![None])
     }
 
     #[cfg(port)]
     fn ours(mut self, route: impl FnMut() + 'a) -> Self {
-        self.0.push(Box::new(route));
+        self.0.push(Some(Box::new(route)));
         self
     }
 
     /// Adds `memcpy` of `length` bytes and runs the routes in turn, the first round uncounted.
-    fn measure(mut self, length: usize) -> Vec<f64> {
+    fn measure(mut self, length: usize) -> Numbers {
         let (from, mut to) = (vec![1_u8; length], vec![0_u8; length]);
         let copy = move || black_box(&mut to).copy_from_slice(black_box(&from));
-        self.0.push(Box::new(copy));
+        self.0.push(Some(Box::new(copy)));
         let mut times = vec![Vec::new(); self.0.len()];
-        let started = Instant::now();
-        while times[0].len() <= ROUNDS || started.elapsed() < PERIOD {
+        let (started, mut rounds) = (Instant::now(), 0);
+        while rounds <= ROUNDS || started.elapsed() < PERIOD {
             for (route, times) in self.0.iter_mut().zip(&mut times) {
+                let Some(route) = route else { continue };
                 let start = Instant::now();
                 route();
                 times.push(start.elapsed().as_nanos());
             }
+            rounds += 1;
         }
-        let mut numbers: Vec<f64> = times
-            .iter_mut()
-            .map(|times| median(&mut times[1..]))
-            .collect();
+        let mut numbers: Numbers = times.iter_mut().map(|times| median(times)).collect();
         if cfg!(port) {
-            numbers.push(numbers[1] / numbers[0]);
+            let both = numbers[1].zip(numbers[0]);
+            numbers.push(both.map(|(ours, original)| ours / original));
         }
         numbers
     }
 }
 
-/// The median of a work's times, for each texel.
-fn median(times: &mut [u128]) -> f64 {
-    times.sort_unstable();
-    times[times.len() / 2] as f64 / TEXELS as f64
+/// The median of a work's times but the first, for each texel.
+fn median(times: &mut [u128]) -> Option<f64> {
+    let (_, counted) = times.split_first_mut()?;
+    counted.sort_unstable();
+    Some(counted[counted.len() / 2] as f64 / TEXELS as f64)
 }
 
 /// A frame of random texels; binary32 channels lie between 0 and 1.
@@ -204,16 +226,20 @@ fn frame(format: &Format) -> Vec<u8> {
     }
 }
 
-fn convert(from: &Format, to: &Format) -> Vec<f64> {
+fn convert(from: &Format, to: &Format) -> Numbers {
     let src = &frame(from);
     let width = WIDTH as usize;
     let region = whole_frame(WIDTH, HEIGHT, width * from.bytes, width * to.bytes);
     let length = TEXELS * to.bytes;
     let (mut dst, originals) = (vec![0; length], ConvertRegion::from(&region));
-    let routes = Routes::original(move || {
-        let (dst, src) = (black_box(&mut dst), black_box(src));
-        assert!(convert_region(dst, to.code, src, from.code, &originals));
-    });
+    let routes = if paper::is_added(from.code, to.code) {
+        Routes::without_original()
+    } else {
+        Routes::original(move || {
+            let (dst, src) = (black_box(&mut dst), black_box(src));
+            assert!(convert_region(dst, to.code, src, from.code, &originals));
+        })
+    };
     #[cfg(port)]
     let routes = {
         let mut dst = vec![0; length];
@@ -265,7 +291,7 @@ impl Depth {
     }
 }
 
-fn unpack(code: u32) -> Vec<f64> {
+fn unpack(code: u32) -> Numbers {
     let call = &Depth::new(code);
     let stencils = if call.format.has_stencil() { TEXELS } else { 0 };
     let (mut depth, mut stencil) = (call.depth.clone(), call.stencil.clone());
@@ -290,7 +316,7 @@ fn unpack(code: u32) -> Vec<f64> {
     routes.measure(4 * TEXELS + stencils)
 }
 
-fn pack(code: u32) -> Vec<f64> {
+fn pack(code: u32) -> Numbers {
     let call = &Depth::new(code);
     let mut packed = call.packed.clone();
     let routes = Routes::original(move || {
@@ -314,7 +340,7 @@ fn pack(code: u32) -> Vec<f64> {
     routes.measure(call.packed.len())
 }
 
-fn splat(pattern: usize) -> Vec<f64> {
+fn splat(pattern: usize) -> Numbers {
     let pixel = &random_bytes(&mut XorShift::seeded(), pattern);
     let mut dst = vec![0; 4 * TEXELS];
     let routes = Routes::original(move || {
@@ -343,7 +369,10 @@ fn write_markdown(path: &str, table: &[Row]) -> std::io::Result<()> {
         "---:|".repeat(COLUMNS.len())
     );
     for (name, numbers) in table {
-        let cells: String = numbers.iter().map(|it| format!(" {it:.2} |")).collect();
+        let cells: String = numbers
+            .iter()
+            .map(|it| format!(" {} |", cell(*it)))
+            .collect();
         text += &format!("| {name} |{cells}\n");
     }
     fs::write(path, text + kept)

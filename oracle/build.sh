@@ -162,7 +162,7 @@ missing() {
 
 common=("$here/common.rs" "$crate/shapes.rs" "$build/liboriginal.rlib")
 program worked_table "${common[@]}" --
-program record "${common[@]}" "$here"/{answers,calls,paper,record_calls}.rs --
+program record "${common[@]}" "$here"/{answers,calls,paper,record_calls,stills}.rs --
 
 # A `bench` over another archive, or over none, is not kept.
 common+=("$here/paper.rs")
@@ -178,7 +178,7 @@ fi
 program bench "${common[@]}" -- --check-cfg 'cfg(port)' "${port[@]}"
 
 if [[ -z $missing ]]; then
-    common+=("$here"/{answers,calls,checks,findings}.rs)
+    common+=("$here"/{answers,calls,checks,findings,stills}.rs)
     for name in compare fuzz; do
         program "$name" "${common[@]}" "$here"/parts/*.rs -- --check-cfg 'cfg(port)' "${port[@]}" -C overflow-checks=on
     done

@@ -42,7 +42,7 @@ pub fn row_bytes(format: &Format, texels: usize) -> usize {
     match format.kind {
         Kind::PackedYuv => texels.div_ceil(2) * 4,
         Kind::PlanarYuv => texels.next_multiple_of(2),
-        Kind::Rgb | Kind::Wide => texels * format.bytes,
+        Kind::Rgb | Kind::Wide | Kind::Still => texels * format.bytes,
     }
 }
 

@@ -1,6 +1,7 @@
-//! One check for each call of the port: the reply against document 01 (paper.rs); acceptance and
-//! every accepted byte against the original; that a refusal leaves every lent byte, that what is
-//! only read stays, and that nothing beside a lent buffer is written.
+//! One check for each call of the port: the reply against the documents (paper.rs); acceptance and
+//! every accepted byte against the original, or stills.rs for the pairs that document 02 adds
+//! (answers.rs); that a refusal leaves every lent byte, that what is only read stays, and that
+//! nothing beside a lent buffer is written.
 //!
 //! The original is not asked where its 32-bit coordinates or 64-bit offsets would wrap, of plane
 //! layouts with refusal 10 (docs/DIFFERENCES.md), and where it would not end soon.
@@ -24,9 +25,10 @@ use original::{convert, pixel_convert, stretch_rect};
 use crate::{
     answers,
     calls::{ConvertCall, DepthCall},
+    common::whole_frame,
     findings::{Findings, Lent, bytes_text, format_text},
-    paper::{self, Layout},
-    port,
+    paper::{self, Format, Layout},
+    port, stills,
 };
 
 /// Calls that pass over more texels than this are made only where a refusal or an empty region
@@ -64,18 +66,27 @@ pub fn watch() {
 /// So many differences of a run are kept in full.
 const KEPT: usize = 5;
 
-/// What the original gave: not asked, a panic, or an answer.
-enum Original<T> {
+/// What answers.rs gave: not asked, a panic, or an answer.
+enum Answer<T> {
     Unasked,
     Panicked,
     Gave(T),
 }
 
-fn ask<T>(asked: bool, call: impl FnOnce() -> T) -> Original<T> {
+fn ask<T>(asked: bool, call: impl FnOnce() -> T) -> Answer<T> {
     if !asked {
-        return Original::Unasked;
+        return Answer::Unasked;
     }
-    catch_unwind(AssertUnwindSafe(call)).map_or(Original::Panicked, Original::Gave)
+    catch_unwind(AssertUnwindSafe(call)).map_or(Answer::Panicked, Answer::Gave)
+}
+
+/// Who answers for a pair of formats.
+fn whose(src_format: u32, dst_format: u32) -> &'static str {
+    if paper::is_added(src_format, dst_format) {
+        "document 02's"
+    } else {
+        "the original's"
+    }
 }
 
 /// The checks of one run and what they found.
@@ -83,7 +94,7 @@ pub struct Checks {
     guarded: bool,
     /// Calls of the port by name and reply.
     pub replies: BTreeMap<(&'static str, u32), u64>,
-    /// Calls of which the original was not asked.
+    /// Calls whose bytes were held against no answer.
     pub unasked: u64,
     pub differences: u64,
     /// The first differences in full.
@@ -132,18 +143,18 @@ impl Checks {
         }
     }
 
-    /// What the original gave; a call of which it was not asked is counted, a panic is a finding.
-    fn answer<T>(&mut self, original: Original<T>, findings: &mut Findings) -> Option<T> {
-        match original {
-            Original::Unasked => {
+    /// The answer, if there is one; a call without is counted, a panic is a finding.
+    fn answer<T>(&mut self, answer: Answer<T>, findings: &mut Findings) -> Option<T> {
+        match answer {
+            Answer::Unasked => {
                 self.unasked += 1;
                 None
             }
-            Original::Panicked => {
-                findings.0.push("the original panics".to_string());
+            Answer::Panicked => {
+                findings.0.push("answers.rs panics".to_string());
                 None
             }
-            Original::Gave(answer) => Some(answer),
+            Answer::Gave(answer) => Some(answer),
         }
     }
 
@@ -154,16 +165,16 @@ impl Checks {
             port::can_convert(src, dst),
             port::can_convert_update(src, dst),
         ];
-        let original = [
-            pixel_convert::can_convert(src, dst),
+        let answers = [
+            answers::pair(src, dst),
             pixel_convert::can_convert_update(src, dst),
         ];
         let paper = [
             paper::can_convert(src, dst),
             paper::can_convert_update(src, dst),
         ];
-        findings.equal("replies", ours, "the original's", original);
-        findings.equal("replies", ours, "document 01's", paper);
+        findings.equal("replies", ours, whose(src, dst), answers);
+        findings.equal("replies", ours, "the documents'", paper);
         self.count("can_convert", 0, 1);
         self.count("can_convert_update", 0, 1);
         self.found(findings, || {
@@ -200,16 +211,40 @@ impl Checks {
         }
         let stops = || !many || call.conversion().stops_among(LOOKED_AT);
         let asked = answers::can_convert(call, paper, stops);
-        let original = ask(asked, || answers::convert(call));
-        if let Some((accepted, bytes)) = self.answer(original, &mut findings) {
-            findings.accepted(reply == 0, accepted);
+        let answer = ask(asked, || answers::convert(call));
+        let whose = whose(call.src_format, call.dst_format);
+        if let Some((accepted, bytes)) = self.answer(answer, &mut findings) {
+            findings.equal("accepted", reply == 0, whose, accepted);
             if reply == 0 && accepted {
-                let at = findings.same("dst", &dst, &bytes, &call.dst);
+                let at = findings.same("dst", &dst, whose, &bytes, &call.dst);
                 findings.0.extend(at.and_then(|at| call.texel_text(at)));
             }
         }
         self.count("convert_region", reply, 1);
         self.found(findings, || call.text());
+    }
+
+    /// Converts texels of a source that document 02 adds, in one row, and holds every byte to 1/2
+    /// of what its channel means.
+    pub fn near(&mut self, from: &Format, src: &[u8]) {
+        let texels = src.len() / from.bytes;
+        let mut dst = vec![0; 4 * texels];
+        let region = whole_frame(texels as u32, 1, src.len(), dst.len());
+        let reply = port::convert_region(&mut dst, paper::A8R8G8B8, src, from.code, &region);
+        let mut findings = Findings::default();
+        findings.reply(reply, 0);
+        let mut both = src.chunks_exact(from.bytes).zip(dst.chunks_exact(4));
+        if let Some((texel, bytes)) = both.find(|(texel, bytes)| !stills::near(from, texel, bytes))
+        {
+            let (texel, bytes) = (bytes_text(texel), bytes_text(bytes));
+            let line = format!("further than 1/2: a texel of {texel} gives {bytes}");
+            findings.0.push(line);
+        }
+        self.count("convert_region", reply, 1);
+        self.unasked += 1;
+        self.found(findings, || {
+            format!("convert_region: a row of {}", from.name)
+        });
     }
 
     pub fn unpack(&mut self, call: &DepthCall) {
@@ -233,14 +268,20 @@ impl Checks {
         }
         let original = ask(paper != 10, || answers::unpack(call));
         if let Some((accepted, planes)) = self.answer(original, &mut findings) {
-            findings.accepted(reply == 0, accepted);
+            findings.equal("accepted", reply == 0, "the original's", accepted);
             if reply == 0 && accepted {
-                let at = findings.same("depth", &depth, &planes.0, &call.depth);
+                let at = findings.same("depth", &depth, "the original's", &planes.0, &call.depth);
                 let pitch = call.planes.depth_pitch;
                 findings
                     .0
                     .extend(at.and_then(|at| call.pixel_text(at / pitch, at % pitch / 4)));
-                findings.same("stencil", &stencil, &planes.1, &call.stencil);
+                findings.same(
+                    "stencil",
+                    &stencil,
+                    "the original's",
+                    &planes.1,
+                    &call.stencil,
+                );
             }
         }
         self.count("unpack", reply, 1);
@@ -268,9 +309,9 @@ impl Checks {
         }
         let original = ask(paper != 10, || answers::pack(call));
         if let Some((accepted, bytes)) = self.answer(original, &mut findings) {
-            findings.accepted(reply == 0, accepted);
+            findings.equal("accepted", reply == 0, "the original's", accepted);
             if reply == 0 && accepted {
-                let at = findings.same("packed", &packed, &bytes, &call.packed);
+                let at = findings.same("packed", &packed, "the original's", &bytes, &call.packed);
                 let pitch = call.packed_pitch;
                 let bytes = paper::packed_bytes(call.format).unwrap_or(1);
                 let text = at.and_then(|at| call.pixel_text(at / pitch, at % pitch / bytes));
@@ -362,7 +403,7 @@ impl Checks {
         findings.reply(reply, paper.0);
         findings.guards("layout", &layout);
         findings.equal("layout", layout.content(), "document 01's", &paper.1);
-        findings.accepted(reply == 0, original.is_some());
+        findings.equal("accepted", reply == 0, "the original's", original.is_some());
         if let Some(original) = original {
             findings.equal("layout", layout.content(), "the original's", &original);
         }
@@ -377,7 +418,7 @@ impl Checks {
         let reply = port::d3dcolor_fill_pixel_bytes(color, format, lent, &mut length.lend()[0]);
         let mut findings = Findings::default();
         findings.reply(reply, paper::fill(format));
-        findings.accepted(reply == 0, original.is_some());
+        findings.equal("accepted", reply == 0, "the original's", original.is_some());
         findings.guards("bytes", &bytes);
         findings.guards("length", &length);
         let pixel = original.unwrap_or_default();
@@ -398,7 +439,7 @@ impl Checks {
         let (mut ours, pattern) = (self.lent(dst), self.lent(pixel));
         port::splat_pixel_pattern(ours.lend(), pattern.content());
         let mut findings = Findings::default();
-        findings.same("dst", &ours, &original, dst);
+        findings.same("dst", &ours, "the original's", &original, dst);
         findings.kept("pixel", &pattern, pixel);
         self.count("splat_pixel_pattern", 0, 1);
         self.found(findings, || {

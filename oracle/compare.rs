@@ -1,5 +1,5 @@
 //! Usage: compare [--seed N] [--all] [PART..]
-//! Compares the port with document 01's replies and with the original, part by part: the named
+//! Compares the port with the documents' replies and with the original, part by part: the named
 //! parts, or all. With --all also the exhaustive forms, which take minutes. Every part draws its
 //! own random numbers, so that a seed gives the same cases whichever parts run. The exit status is
 //! 1 if anything differs.
@@ -18,6 +18,7 @@ mod parts {
     pub mod planar;
 }
 mod port;
+mod stills;
 
 use std::{process::ExitCode, thread, time::Instant};
 

@@ -60,15 +60,7 @@ pub struct Findings(pub Vec<String>);
 
 impl Findings {
     pub fn reply(&mut self, ours: u32, paper: u32) {
-        self.equal("reply", ours, "document 01's", paper);
-    }
-
-    pub fn accepted(&mut self, ours: bool, original: bool) {
-        if ours != original {
-            let word = |accepted| if accepted { "accepts" } else { "refuses" };
-            let (ours, original) = (word(ours), word(original));
-            self.0.push(format!("ours {ours}, the original {original}"));
-        }
+        self.equal("reply", ours, "the documents'", paper);
     }
 
     /// A value that ours must equal.
@@ -97,19 +89,20 @@ impl Findings {
         }
     }
 
-    /// The bytes are the original's; the place of the first that is not.
+    /// The bytes that ours must equal; the place of the first that does not.
     pub fn same(
         &mut self,
         name: &str,
         lent: &Lent<u8>,
-        original: &[u8],
+        whose: &str,
+        other: &[u8],
         before: &[u8],
     ) -> Option<usize> {
         self.guards(name, lent);
-        let at = first_difference(lent.content(), original)?;
-        let (ours, theirs, was) = (lent.content()[at], original[at], before[at]);
+        let at = first_difference(lent.content(), other)?;
+        let (ours, theirs, was) = (lent.content()[at], other[at], before[at]);
         self.0.push(format!(
-            "{name} byte {at}: ours {ours:02X}, the original's {theirs:02X}, {was:02X} before"
+            "{name} byte {at}: ours {ours:02X}, {whose} {theirs:02X}, {was:02X} before"
         ));
         Some(at)
     }

@@ -12,6 +12,7 @@ mod common;
 mod findings;
 mod paper;
 mod port;
+mod stills;
 
 use std::{
     process::ExitCode,
@@ -165,10 +166,7 @@ fn print(checks: &Checks) {
     }
     let (calls, differences) = (checks.calls(), checks.differences);
     println!("{:32}{:12}{calls:>12}", "all", "");
-    println!(
-        "{:32}{:12}{:>12}",
-        "without the original", "", checks.unasked
-    );
+    println!("{:32}{:12}{:>12}", "unasked", "", checks.unasked);
     println!("{:32}{:12}{differences:>12}", "differences", "");
     for difference in &checks.first {
         println!("  {difference}");

@@ -1,7 +1,8 @@
-//! The reply to every call by document 01: 0 where it accepts, else the number of the refusal.
-//! Read from the document alone, to judge the port by: neither the original's code nor the port's
-//! stands behind it, but for the lists of formats, which the document leaves to the original, and
-//! the structs in which the numbers of a region and of two planes stand.
+//! The reply to every call by document 01, with the sources that request 1 of document 02 adds: 0
+//! where it accepts, else the number of the refusal. Read from the documents alone, to judge the
+//! port by: neither the original's code nor the port's stands behind it, but for the older formats,
+//! whose lists document 01 leaves to the original, and the structs in which the numbers of a region
+//! and of two planes stand.
 //! Numbers have 128 bits, so that products of 64-bit numbers are true ones; a sum that would not
 //! fit stays at the greatest number, which lies past every buffer.
 #![allow(dead_code)]
@@ -15,6 +16,8 @@ pub enum Kind {
     Rgb,
     /// Its own bytes; converts to A8R8G8B8 alone.
     Wide,
+    /// The same, of document 02.
+    Still,
     /// The macropixel of 4 bytes that starts at its even column.
     PackedYuv,
     /// A luma byte and two chroma bytes of a planar layout.
@@ -44,7 +47,7 @@ const fn letters(code: &[u8; 4]) -> u32 {
     u32::from_le_bytes(*code)
 }
 
-const A8R8G8B8: u32 = 21;
+pub const A8R8G8B8: u32 = 21;
 pub const NV12: u32 = letters(b"NV12");
 pub const YV12: u32 = letters(b"YV12");
 pub const D24S8: u32 = 75;
@@ -52,7 +55,7 @@ pub const D24X8: u32 = 77;
 pub const D16: u32 = 80;
 
 /// Every source; those of kind Rgb are the destinations.
-pub const FORMATS: [Format; 18] = [
+pub const FORMATS: [Format; 24] = [
     format("R8G8B8", 20, Kind::Rgb, 3),
     format("A8R8G8B8", A8R8G8B8, Kind::Rgb, 4),
     format("X8R8G8B8", 22, Kind::Rgb, 4),
@@ -71,6 +74,12 @@ pub const FORMATS: [Format; 18] = [
     format("UYVY", letters(b"UYVY"), Kind::PackedYuv, 2),
     format("YV12", YV12, Kind::PlanarYuv, 1),
     format("NV12", NV12, Kind::PlanarYuv, 1),
+    format("A2R10G10B10", 35, Kind::Still, 4),
+    format("A2B10G10R10", 31, Kind::Still, 4),
+    format("G16R16", 34, Kind::Still, 4),
+    format("L16", 81, Kind::Still, 2),
+    format("V8U8", 60, Kind::Still, 2),
+    format("Q8W8V8U8", 63, Kind::Still, 4),
 ];
 
 /// The codes that fill: all that have a name in document 01 but R8G8B8, A8L8, depth and YUV.
@@ -103,11 +112,16 @@ pub fn can_convert_update(src_format: u32, dst_format: u32) -> bool {
 
 pub fn can_convert(src_format: u32, dst_format: u32) -> bool {
     let stretches = match kind(src_format) {
-        Some(Kind::Wide) => dst_format == A8R8G8B8,
+        Some(Kind::Wide | Kind::Still) => dst_format == A8R8G8B8,
         Some(Kind::PlanarYuv) => kind(dst_format) == Some(Kind::Rgb),
         _ => false,
     };
     stretches || can_convert_update(src_format, dst_format)
+}
+
+/// Whether document 02 adds the pair: the original refuses it.
+pub fn is_added(src_format: u32, dst_format: u32) -> bool {
+    kind(src_format) == Some(Kind::Still) && can_convert(src_format, dst_format)
 }
 
 /// A texel of a region, counted from the region's first one.
@@ -167,7 +181,7 @@ fn source_end(region: &Region, format: &Format, texel: Texel) -> Option<u128> {
     let (x, y) = coordinates(region.src_x, region.src_y, texel)?;
     let bytes = format.bytes as u128;
     let row_end = match format.kind {
-        Kind::Rgb | Kind::Wide => (x + 1) * bytes,
+        Kind::Rgb | Kind::Wide | Kind::Still => (x + 1) * bytes,
         Kind::PackedYuv => x / 2 * 4 + 4,
         Kind::PlanarYuv => return planar_end(region, format.code, x, y),
     };

@@ -2,70 +2,57 @@
 //! Records the original's answers, in three files of the folder. `vectors` has the leaf arithmetic
 //! of channels, as records of four little-endian 32-bit words: call, a, b, answer; `values` and
 //! `buffers` have every public call (record_calls.rs). README.md lists the calls. Every answer
-//! comes from a public function of the original; where several lanes or formats show the same
-//! arithmetic, they must agree.
+//! comes from a public function of the original, and from stills.rs where document 02 adds to them;
+//! where several lanes or formats show the same arithmetic, they must agree.
 
 mod answers;
 mod calls;
 mod common;
 mod paper;
 mod record_calls;
+mod stills;
 
 use std::{path::Path, process::ExitCode};
 
-use calls::{CLASSES, both_signs, merged, tie};
-use common::{XorShift, convert_texel};
+use calls::{CLASSES, ConvertCall, both_signs, merged, tie};
+use common::{XorShift, convert_texel, whole_frame};
 use mtld3d_types::*;
 use original::{convert::d3dcolor_fill_pixel_bytes, format::linear_row_pitch};
-use record_calls::{BUFFERS, FIRST, Recorder, VALUES};
+use paper::{FORMATS, Kind};
+use record_calls::{BUFFERS, Recorder, VALUES};
 
 /// Records of one call: a, b, answer.
 type Sample = Vec<[u32; 3]>;
 
-/// A name, and how the call's records are made.
-type Call = (&'static str, fn(&mut XorShift) -> Sample);
+/// A call's number and name, and how its records are made.
+type Call = (u32, &'static str, fn(&mut XorShift) -> Sample);
 
-/// The calls; a call's number is its place, counted from 1.
-const CALLS: [Call; 15] = [
-    ("expand4", |_| answers(0..16, expand4)),
-    ("expand5", |_| answers(0..32, expand5)),
-    ("expand6", |_| answers(0..64, expand6)),
-    ("expand1", |_| answers(0..2, expand1)),
-    ("truncate4", |_| answers(0..256, truncate4)),
-    ("truncate5", |_| answers(0..256, truncate5)),
-    ("truncate6", |_| answers(0..256, truncate6)),
-    ("alpha bit", |_| answers(0..256, alpha_bit)),
-    ("luminance", |random| answers(colours(random), luminance)),
-    ("nearest code", |_| nearest_codes()),
-    ("unorm8 to unorm16", |_| answers(0..256, unorm8_to_unorm16)),
-    ("unorm16 to unorm8", |random| {
+/// The calls; numbers 16 to 28 are the public calls.
+const CALLS: [Call; 16] = [
+    (1, "expand4", |_| answers(0..16, expand4)),
+    (2, "expand5", |_| answers(0..32, expand5)),
+    (3, "expand6", |_| answers(0..64, expand6)),
+    (4, "expand1", |_| answers(0..2, expand1)),
+    (5, "truncate4", |_| answers(0..256, truncate4)),
+    (6, "truncate5", |_| answers(0..256, truncate5)),
+    (7, "truncate6", |_| answers(0..256, truncate6)),
+    (8, "alpha bit", |_| answers(0..256, alpha_bit)),
+    (9, "luminance", |random| answers(colours(random), luminance)),
+    (10, "nearest code", |_| nearest_codes()),
+    (11, "unorm8 to unorm16", |_| {
+        answers(0..256, unorm8_to_unorm16)
+    }),
+    (12, "unorm16 to unorm8", |random| {
         answers(codes16(random), unorm16_to_unorm8)
     }),
-    ("binary32 channel", |random| {
+    (13, "binary32 channel", |random| {
         answers(binary32s(random), binary32)
     }),
-    ("linear_row_pitch", |_| {
+    (14, "linear_row_pitch", |_| {
         answers(widths(), |width| linear_row_pitch(width, 1))
     }),
-    ("bytes a texel", |_| answers(SOURCES, bytes_a_texel)),
-];
-
-/// The RGB formats that convert both ways, and the two wide ones that convert to A8R8G8B8.
-const SOURCES: [u32; 14] = [
-    D3DFMT_R8G8B8,
-    D3DFMT_A8R8G8B8,
-    D3DFMT_X8R8G8B8,
-    D3DFMT_R5G6B5,
-    D3DFMT_X1R5G5B5,
-    D3DFMT_A1R5G5B5,
-    D3DFMT_A4R4G4B4,
-    D3DFMT_A8,
-    D3DFMT_A8B8G8R8,
-    D3DFMT_X8B8G8R8,
-    D3DFMT_L8,
-    D3DFMT_A8L8,
-    D3DFMT_A16B16G16R16,
-    D3DFMT_A32B32G32R32F,
+    (15, "bytes a texel", |_| answers(sources(), bytes_a_texel)),
+    (29, "nearest byte", |_| nearest_bytes()),
 ];
 
 fn main() -> ExitCode {
@@ -77,8 +64,8 @@ fn main() -> ExitCode {
     println!("seed {:016X}", XorShift::SEED);
     let files = [
         ("vectors", vectors()),
-        ("values", public(FIRST, &VALUES)),
-        ("buffers", public(FIRST + VALUES.len() as u32, &BUFFERS)),
+        ("values", public(&VALUES)),
+        ("buffers", public(&BUFFERS)),
     ];
     for (name, file) in files {
         println!("{name}: {} bytes", file.len());
@@ -94,8 +81,7 @@ fn main() -> ExitCode {
 fn vectors() -> Vec<u8> {
     let mut random = XorShift::seeded();
     let mut file = Vec::new();
-    for (place, (name, sample)) in CALLS.iter().enumerate() {
-        let call = place as u32 + 1;
+    for (call, name, sample) in CALLS {
         let records = sample(&mut random);
         println!("call {call:2} {name:28} {:5} records", records.len());
         for [a, b, answer] in records {
@@ -105,10 +91,10 @@ fn vectors() -> Vec<u8> {
     file
 }
 
-/// The records of public calls whose numbers start at `first`; each has random numbers of its own.
-fn public(first: u32, calls: &[record_calls::Call]) -> Vec<u8> {
+/// The records of public calls, each of which has random numbers of its own.
+fn public(calls: &[record_calls::Call]) -> Vec<u8> {
     let mut file = Vec::new();
-    for (call, (name, record)) in (first..).zip(calls) {
+    for &(call, name, record) in calls {
         let random = XorShift::from_seed(XorShift::SEED ^ u64::from(call));
         let mut recorder = Recorder::new(random, call);
         record(&mut recorder);
@@ -332,11 +318,33 @@ fn widths() -> Vec<u32> {
     (1..=64).chain(around).chain(16380..=16384).collect()
 }
 
+/// The codes of all sources but YUV.
+fn sources() -> impl Iterator<Item = u32> {
+    let of_own_bytes = |kind| matches!(kind, Kind::Rgb | Kind::Wide | Kind::Still);
+    let formats = FORMATS.iter().filter(move |it| of_own_bytes(it.kind));
+    formats.map(|it| it.code)
+}
+
 /// The least source length from which one texel converts to A8R8G8B8.
 fn bytes_a_texel(format: u32) -> u32 {
-    let converts = |length: &u32| {
-        let texel = vec![0; *length as usize];
-        convert_texel::<4>(D3DFMT_A8R8G8B8, &texel, format).is_some()
+    let converts = |length: &usize| {
+        let call = ConvertCall {
+            dst_format: D3DFMT_A8R8G8B8,
+            dst: vec![0; 4],
+            src_format: format,
+            src: vec![0; *length],
+            region: whole_frame(1, 1, *length, 4),
+        };
+        answers::convert(&call).0
     };
-    (0..=64).find(converts).expect("a format that converts")
+    let least = (0..=64).find(converts);
+    least.expect("a format that converts") as u32
+}
+
+/// The nearest bytes to 255 × code / max, which document 02 asks for.
+fn nearest_bytes() -> Sample {
+    [3, 1023, 127]
+        .into_iter()
+        .flat_map(|max| (0..=max).map(move |code| [code, max, stills::nearest(code, max).into()]))
+        .collect()
 }

@@ -4,10 +4,11 @@
 //! `values`, 64 bytes: the call's number and 1 for a refusal, three parameters, 32 bytes of answer.
 //! `buffers`, 512 bytes: the call's number and 1 for a refusal, fifteen parameters, five areas.
 //!
-//! The original decides acceptance and every byte of an accepted call. After a refusal every lent
-//! byte is what it was and what is handed back is zero, which is the port's rule
-//! (docs/DIFFERENCES.md). Left out: what the original would wrap or panic at, what it would accept
-//! of a plane layout that has refusal 10, and what does not fit in an area.
+//! The original decides acceptance and every byte of an accepted call; for the pairs that document
+//! 02 adds, paper.rs and stills.rs do. After a refusal every lent byte is what it was and what is
+//! handed back is zero, which is the port's rule (docs/DIFFERENCES.md). Left out: what the original
+//! would wrap or panic at, what it would accept of a plane layout that has refusal 10, and what does
+//! not fit in an area.
 
 use original::{convert, pixel_convert, stretch_rect};
 
@@ -21,35 +22,34 @@ use crate::{
     paper::{self, FORMATS, Format, Kind, NV12, YV12, named},
 };
 
-/// A call's name, and how its cases are recorded.
-pub type Call = (&'static str, fn(&mut Recorder));
+/// A call's number and name, and how its cases are recorded.
+pub type Call = (u32, &'static str, fn(&mut Recorder));
 
-/// The number of the first call; those of the channel arithmetic come before.
-pub const FIRST: u32 = 16;
-
-/// The calls of the file `values`; a call's number is its place, counted from `FIRST`.
+/// The calls of the file `values`.
 pub const VALUES: [Call; 9] = [
-    ("can_convert", |to| {
-        codes(to, pixel_convert::can_convert);
-    }),
-    ("can_convert_update", |to| {
+    (16, "can_convert", |to| codes(to, answers::pair)),
+    (17, "can_convert_update", |to| {
         codes(to, pixel_convert::can_convert_update);
     }),
-    ("yuv_to_rgb8", triples),
-    ("planar_yuv_layout", planar_layouts),
-    ("planar_yuv_layout_from_pitch", planar_layouts_from_pitch),
-    ("plane_layout", plane_layouts),
-    ("d3dcolor_fill_pixel_bytes", fills),
-    ("f32_to_f16_bits", halves),
-    ("d3dcolor_to_rgba_f32", colors),
+    (18, "yuv_to_rgb8", triples),
+    (19, "planar_yuv_layout", planar_layouts),
+    (
+        20,
+        "planar_yuv_layout_from_pitch",
+        planar_layouts_from_pitch,
+    ),
+    (21, "plane_layout", plane_layouts),
+    (22, "d3dcolor_fill_pixel_bytes", fills),
+    (23, "f32_to_f16_bits", halves),
+    (24, "d3dcolor_to_rgba_f32", colors),
 ];
 
-/// The calls of the file `buffers`; the numbers go on.
+/// The calls of the file `buffers`.
 pub const BUFFERS: [Call; 4] = [
-    ("convert_region", conversions),
-    ("unpack", unpacks),
-    ("pack", packs),
-    ("splat_pixel_pattern", splats),
+    (25, "convert_region", conversions),
+    (26, "unpack", unpacks),
+    (27, "pack", packs),
+    (28, "splat_pixel_pattern", splats),
 ];
 
 /// The bytes of an area, and so the longest buffer that is lent.

@@ -41,6 +41,9 @@ static void test_pairs(void)
     check(!wentuqis_can_convert(WENTUQIS_FMT_R5G6B5, WENTUQIS_FMT_NV12), "can_convert: R5G6B5 to NV12");
     check(wentuqis_can_convert_update(WENTUQIS_FMT_YUY2, WENTUQIS_FMT_R5G6B5), "can_convert_update: YUY2 to R5G6B5");
     check(!wentuqis_can_convert_update(WENTUQIS_FMT_NV12, WENTUQIS_FMT_R5G6B5), "can_convert_update: NV12 to R5G6B5");
+    check(wentuqis_can_convert(WENTUQIS_FMT_L16, WENTUQIS_FMT_A8R8G8B8), "can_convert: L16 to A8R8G8B8");
+    check(!wentuqis_can_convert(WENTUQIS_FMT_L16, WENTUQIS_FMT_R5G6B5), "can_convert: L16 to R5G6B5");
+    check(!wentuqis_can_convert_update(WENTUQIS_FMT_L16, WENTUQIS_FMT_A8R8G8B8), "can_convert_update: L16 to A8R8G8B8");
 }
 
 /* Converts two texels of a row into A8R8G8B8. */
@@ -68,6 +71,19 @@ static void test_convert(void)
     check(wentuqis_convert_region(dst, 0, WENTUQIS_FMT_A8R8G8B8, frame, 0, WENTUQIS_FMT_YUY2,
                                   0, 0, 0, 0, 0, 0, 0, 0, 0, 0, 0) == WENTUQIS_ACCEPTED,
           "convert_region: empty region, lengths 0");
+}
+
+static void test_convert_normal_map(void)
+{
+    static const uint8_t map[4] = {0x7f, 0x01, 0x80, 0x40};
+    static const uint8_t screen[8] = {255, 2, 255, 255, 255, 129, 0, 255};
+    uint8_t dst[8];
+
+    memset(dst, 9, sizeof dst);
+    check(convert(dst, 8, map, 3, WENTUQIS_FMT_V8U8) == WENTUQIS_SOURCE_OUTSIDE, "convert_region: V8U8, source");
+    check(all(dst, sizeof dst, 9), "convert_region: V8U8 refused, dst is kept");
+    check(convert(dst, 8, map, 4, WENTUQIS_FMT_V8U8) == WENTUQIS_ACCEPTED, "convert_region: V8U8 accepted");
+    check(memcmp(dst, screen, sizeof dst) == 0, "convert_region: V8U8, bytes");
 }
 
 static void test_fill(void)
@@ -180,6 +196,7 @@ int main(void)
 {
     test_pairs();
     test_convert();
+    test_convert_normal_map();
     test_fill();
     test_splat();
     test_numbers();

@@ -1,5 +1,5 @@
 //! Conversions: every pair of formats, every kind of region and buffer, every texel of the
-//! narrow formats and every code of the wide ones.
+//! narrow formats and every code of the others.
 
 use crate::{
     calls::{
@@ -24,6 +24,7 @@ pub fn run(checks: &mut Checks, random: &mut XorShift, all: bool) {
     narrow_texels(checks, random);
     luminances(checks);
     wide_texels(checks, random);
+    still_texels(checks, random);
     if all {
         every_yuv(checks, random);
         every_binary32(checks);
@@ -162,6 +163,7 @@ fn limits(checks: &mut Checks, random: &mut XorShift) {
         ("A8R8G8B8", "R8G8B8"),
         ("UYVY", "L8"),
         ("A16B16G16R16", "A8R8G8B8"),
+        ("G16R16", "A8R8G8B8"),
         ("NV12", "R5G6B5"),
     ] {
         let call = ConvertCall::accepted(random, named(from), named(to), [2, 2, 1]);
@@ -335,21 +337,26 @@ fn frame(checks: &mut Checks, from: &Format, to: &Format, width: usize, src: Vec
 fn narrow_texels(checks: &mut Checks, random: &mut XorShift) {
     for (from, to) in pairs() {
         if from.kind == Kind::Rgb {
-            let src = match from.bytes {
-                1 => (0..=255).collect(),
-                2 => (0..=0xffff_u16).flat_map(u16::to_le_bytes).collect(),
-                bytes => every_byte(random, bytes),
+            let widths: &[u32] = match from.bytes {
+                2 => &[16],
+                bytes => &[8; 4][..bytes],
             };
-            frame(checks, from, to, 256, src);
+            frame(checks, from, to, 256, every_code(random, from, widths));
         }
     }
 }
 
-/// Random texels with every byte in each place.
-fn every_byte(random: &mut XorShift, bytes: usize) -> Vec<u8> {
-    let mut texels = random_bytes(random, bytes * 256 * bytes);
-    for (index, texel) in texels.chunks_exact_mut(bytes).enumerate() {
-        texel[index / 256] = index as u8;
+/// Texels of at most 32 bits that have every code in each lane, beside random ones; the widths of
+/// the lanes are given from the lowest bit up.
+fn every_code(random: &mut XorShift, format: &Format, widths: &[u32]) -> Vec<u8> {
+    let (mut texels, mut low) = (Vec::new(), 0);
+    for width in widths {
+        let lane = ((1 << width) - 1) << low;
+        for code in 0..1 << width {
+            let texel = random.next_u32() & !lane | code << low;
+            texels.extend(&texel.to_le_bytes()[..format.bytes]);
+        }
+        low += width;
     }
     texels
 }
@@ -378,6 +385,23 @@ fn wide_texels(checks: &mut Checks, random: &mut XorShift) {
         frame(checks, named("A16B16G16R16"), named("A8R8G8B8"), 256, src);
         let src = in_channel(random, &patterns, channel);
         frame(checks, named("A32B32G32R32F"), named("A8R8G8B8"), 1, src);
+    }
+}
+
+/// Every code in each lane of the sources that document 02 adds: all texels of those of 16 bits.
+fn still_texels(checks: &mut Checks, random: &mut XorShift) {
+    const WIDTHS: [(&str, &[u32]); 6] = [
+        ("A2R10G10B10", &[10, 10, 10, 2]),
+        ("A2B10G10R10", &[10, 10, 10, 2]),
+        ("G16R16", &[16, 16]),
+        ("L16", &[16]),
+        ("V8U8", &[16]),
+        ("Q8W8V8U8", &[8, 8, 8, 8]),
+    ];
+    for (name, widths) in WIDTHS {
+        let src = every_code(random, named(name), widths);
+        checks.near(named(name), &src);
+        frame(checks, named(name), named("A8R8G8B8"), 4, src);
     }
 }
 

@@ -67,6 +67,8 @@ codes! {
     D3DFMT_D24X8 "D24X8" 77;
     /// A 16-bit depth code.
     D3DFMT_D16 "D16" 80;
+    /// 16 bits of luminance.
+    D3DFMT_L16 "L16" 81;
     /// 64 bits: signed U, V, W, Q of 16 each.
     D3DFMT_Q16W16V16U16 "Q16W16V16U16" 110;
     /// Red as binary16.
@@ -127,11 +129,12 @@ pub(crate) const fn is_planar_yuv(code: u32) -> bool {
     matches!(code, D3DFMT_YV12 | D3DFMT_NV12)
 }
 
-/// Bytes of a texel of an RGB format that takes part in conversions.
+/// Bytes of a texel of a format that takes part in conversions and is not YUV.
 pub(crate) const fn bytes_per_texel(code: u32) -> u64 {
     match code {
         D3DFMT_L8 | D3DFMT_A8 => 1,
-        D3DFMT_R5G6B5 | D3DFMT_X1R5G5B5 | D3DFMT_A1R5G5B5 | D3DFMT_A4R4G4B4 | D3DFMT_A8L8 => 2,
+        D3DFMT_R5G6B5 | D3DFMT_X1R5G5B5 | D3DFMT_A1R5G5B5 | D3DFMT_A4R4G4B4 | D3DFMT_A8L8
+        | D3DFMT_V8U8 | D3DFMT_L16 => 2,
         D3DFMT_R8G8B8 => 3,
         D3DFMT_A16B16G16R16 => 8,
         D3DFMT_A32B32G32R32F => 16,

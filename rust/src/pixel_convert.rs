@@ -1,9 +1,15 @@
 //! Conversion of one region of texels between two uncompressed colour formats.
 //!
 //! Sources are the twelve RGB formats whose channels have at most eight bits, packed YUV (YUY2,
-//! UYVY), planar YUV (YV12, NV12), and, into A8R8G8B8 only, A16B16G16R16 and A32B32G32R32F.
-//! Destinations are the twelve RGB formats. A conversion is accepted or refused as a whole: refused,
-//! it leaves every byte of the destination.
+//! UYVY), planar YUV (YV12, NV12), and, into A8R8G8B8 only, A16B16G16R16, A32B32G32R32F,
+//! A2R10G10B10, A2B10G10R10, G16R16, L16, V8U8 and Q8W8V8U8. Destinations are the twelve RGB
+//! formats. A conversion is accepted or refused as a whole: refused, it leaves every byte of the
+//! destination.
+//!
+//! The last six sources are refused by the original. Their unsigned codes go to the nearest byte. Of
+//! the signed U, V, W, Q, which are red, green, blue and alpha, a code at or below 0 gives 0, and a
+//! positive n the nearest byte to 255n/127. L16 fills red, green and blue. A channel that the format
+//! lacks is 255.
 
 use std::fmt;
 
@@ -27,13 +33,15 @@ pub use crate::shapes::ConvertRegion;
 /// assert!(can_convert(D3DFMT_NV12, D3DFMT_R5G6B5));
 /// assert!(can_convert(D3DFMT_A16B16G16R16, D3DFMT_A8R8G8B8));
 /// assert!(!can_convert(D3DFMT_A16B16G16R16, D3DFMT_R5G6B5));
+/// assert!(can_convert(D3DFMT_V8U8, D3DFMT_A8R8G8B8));
 /// ```
 #[must_use]
 pub fn can_convert(src_format: u32, dst_format: u32) -> bool {
     ffi::wentuqis_can_convert(src_format, dst_format)
 }
 
-/// Whether `UpdateSurface` and `UpdateTexture` convert this pair: no planar and no wide source.
+/// Whether `UpdateSurface` and `UpdateTexture` convert this pair: no planar source, and none that
+/// converts into A8R8G8B8 only.
 ///
 /// Never refuses. Unlike the original it is no `const fn`.
 ///
@@ -43,6 +51,7 @@ pub fn can_convert(src_format: u32, dst_format: u32) -> bool {
 ///
 /// assert!(can_convert_update(D3DFMT_YUY2, D3DFMT_A8R8G8B8));
 /// assert!(!can_convert_update(D3DFMT_NV12, D3DFMT_A8R8G8B8));
+/// assert!(!can_convert_update(D3DFMT_V8U8, D3DFMT_A8R8G8B8));
 /// ```
 #[must_use]
 pub fn can_convert_update(src_format: u32, dst_format: u32) -> bool {

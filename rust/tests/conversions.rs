@@ -3,7 +3,7 @@
 
 mod common;
 
-use common::{RGB, WIDE, but, bytes, converted, refuses, region};
+use common::{RGB, TO_A8R8G8B8, but, bytes, converted, refuses, region};
 use wentuqis::Refusal::{DestinationOutside, PlanarShape, SourceOutside, UnsupportedPair};
 use wentuqis::format::*;
 use wentuqis::pixel_convert::{ConvertRegion, can_convert, can_convert_update};
@@ -15,16 +15,16 @@ fn pairs_of_texels() -> impl Iterator<Item = (u32, usize, u32, usize)> {
         .into_iter()
         .chain([(D3DFMT_YUY2, 2), (D3DFMT_UYVY, 2)])
         .flat_map(|(src, from)| RGB.map(|(dst, to)| (src, from, dst, to)));
-    let wide = WIDE.map(|(src, from)| (src, from, D3DFMT_A8R8G8B8, 4));
-    narrow.chain(wide)
+    let others = TO_A8R8G8B8.map(|(src, from)| (src, from, D3DFMT_A8R8G8B8, 4));
+    narrow.chain(others)
 }
 
 #[test]
 fn pairs_that_convert() {
     for (src, _, dst, _) in pairs_of_texels() {
         assert!(can_convert(src, dst));
-        let wide = WIDE.iter().any(|(code, _)| *code == src);
-        assert_eq!(can_convert_update(src, dst), !wide);
+        let update = TO_A8R8G8B8.iter().all(|(code, _)| *code != src);
+        assert_eq!(can_convert_update(src, dst), update);
     }
     for (dst, _) in RGB {
         for planar in [D3DFMT_YV12, D3DFMT_NV12] {
@@ -46,7 +46,6 @@ fn unsupported_pairs_come_first() {
     for (src, dst) in [
         (D3DFMT_A8R8G8B8, D3DFMT_YUY2),
         (D3DFMT_D16, D3DFMT_A8R8G8B8),
-        (D3DFMT_A16B16G16R16, D3DFMT_R5G6B5),
         (D3DFMT_NV12, D3DFMT_NV12),
         (0, D3DFMT_A8R8G8B8),
         (u32::MAX, u32::MAX),
@@ -56,6 +55,19 @@ fn unsupported_pairs_come_first() {
             refuses(UnsupportedPair, 16, dst, 16, src, &region);
             refuses(UnsupportedPair, 0, dst, 0, src, &region);
         }
+    }
+}
+
+#[test]
+fn sources_that_convert_into_a8r8g8b8_only() {
+    for (src, from) in TO_A8R8G8B8 {
+        let one = region(1, 1, from, 4);
+        for (dst, _) in RGB.into_iter().filter(|(dst, _)| *dst != D3DFMT_A8R8G8B8) {
+            assert!(!can_convert(src, dst) && !can_convert_update(src, dst));
+            refuses(UnsupportedPair, 4, dst, from, src, &one);
+        }
+        assert!(!can_convert(D3DFMT_A8R8G8B8, src) && !can_convert(src, src));
+        refuses(UnsupportedPair, from, src, 4, D3DFMT_A8R8G8B8, &one);
     }
 }
 
@@ -182,6 +194,75 @@ fn yuv_lies_within_a_half_and_a_500th() {
         for (byte, exact) in [r, g, b].into_iter().zip(exact) {
             let error = 1_000_000 * i64::from(byte) - exact.clamp(0, 255_000_000);
             assert!(error.abs() <= 502_000, "{y} {u} {v}");
+        }
+    }
+}
+
+#[test]
+fn texels_of_normal_maps_and_ten_bit_stills() {
+    for (format, texel, [red, green, blue, alpha]) in [
+        // 255 x 512 / 1023 is 127.6, 255 x 2 / 1023 is 0.499, 255 x 3 / 1023 is 0.7
+        (
+            D3DFMT_A2R10G10B10,
+            (1_u32 << 30 | 1023 << 20 | 512 << 10 | 2)
+                .to_le_bytes()
+                .to_vec(),
+            [255, 128, 0, 85],
+        ),
+        (
+            D3DFMT_A2B10G10R10,
+            (2_u32 << 30 | 1023 << 20 | 512 << 10 | 3)
+                .to_le_bytes()
+                .to_vec(),
+            [1, 128, 255, 170],
+        ),
+        // 32768 / 257 is 127.502, 32767 / 257 is 127.498
+        (
+            D3DFMT_G16R16,
+            vec![0x00, 0x80, 0xff, 0x7f],
+            [128, 127, 255, 255],
+        ),
+        (D3DFMT_G16R16, vec![0xff, 0xff, 0, 0], [255, 0, 255, 255]),
+        (D3DFMT_L16, vec![0x00, 0x80], [128, 128, 128, 255]),
+        (D3DFMT_L16, vec![0xff, 0x7f], [127, 127, 127, 255]),
+        // 255 x 64 / 127 is 128.504, 255 x 63 / 127 is 126.496
+        (D3DFMT_V8U8, vec![0x40, 0x3f], [129, 126, 255, 255]),
+        (D3DFMT_V8U8, vec![0x00, 0x81], [0, 0, 255, 255]),
+        (
+            D3DFMT_Q8W8V8U8,
+            vec![0x7f, 0x01, 0x80, 0xff],
+            [255, 2, 0, 0],
+        ),
+        (D3DFMT_Q8W8V8U8, vec![0, 0x80, 0x40, 0x7f], [0, 0, 129, 255]),
+    ] {
+        let one = region(1, 1, texel.len(), 4);
+        let dst = converted(4, D3DFMT_A8R8G8B8, &texel, format, &one);
+        assert_eq!(dst, [blue, green, red, alpha]);
+    }
+}
+
+#[test]
+fn normal_maps_and_ten_bit_stills_lie_within_a_half() {
+    type Texel = fn(u32) -> u32;
+    // each code of 0 to max as red, or as the luminance
+    let lanes: [(u32, usize, u32, Texel); 6] = [
+        (D3DFMT_A2R10G10B10, 4, 1023, |code| code << 20),
+        (D3DFMT_A2B10G10R10, 4, 1023, |code| code),
+        (D3DFMT_G16R16, 4, 65535, |code| code),
+        (D3DFMT_L16, 2, 65535, |code| code),
+        (D3DFMT_V8U8, 2, 127, |code| code),
+        (D3DFMT_Q8W8V8U8, 4, 127, |code| code),
+    ];
+    for (format, size, max, texel) in lanes {
+        let src: Vec<u8> = (0..=max)
+            .flat_map(|code| texel(code).to_le_bytes().into_iter().take(size))
+            .collect();
+        let row = region(max + 1, 1, 0, 0);
+        let dst_len = 4 * (max as usize + 1);
+        let dst = converted(dst_len, D3DFMT_A8R8G8B8, &src, format, &row);
+        for (code, bytes) in (0..=max).zip(dst.chunks_exact(4)) {
+            let error = (u32::from(bytes[2]) * max).abs_diff(255 * code);
+            assert!(2 * error <= max, "format {format}, code {code}");
         }
     }
 }

@@ -72,6 +72,7 @@ fn formats_without_a_fill() {
         D3DFMT_A8L8,
         D3DFMT_D16,
         D3DFMT_D24S8,
+        D3DFMT_L16,
         D3DFMT_YUY2,
         D3DFMT_NV12,
         u32::MAX,

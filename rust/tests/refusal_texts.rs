@@ -5,7 +5,7 @@ mod common;
 
 use std::fmt::Debug;
 
-use common::{Numbers, RGB, WIDE, but, bytes, region};
+use common::{Numbers, RGB, TO_A8R8G8B8, but, bytes, region};
 use wentuqis::convert::try_d3dcolor_fill_pixel_bytes;
 use wentuqis::depth_texture::PlaneLayout;
 use wentuqis::format::*;
@@ -53,7 +53,8 @@ fn unsupported_pairs() {
         pair_text(827_611_204, D3DFMT_A8R8G8B8),
         "unsupported pair: format 827611204 converts into nothing; \
          the sources are R8G8B8, A8R8G8B8, X8R8G8B8, R5G6B5, X1R5G5B5, A1R5G5B5, A4R4G4B4, A8, \
-         A8B8G8R8, X8B8G8R8, A16B16G16R16, L8, A8L8, A32B32G32R32F, YUY2, UYVY, YV12 and NV12"
+         A2B10G10R10, A8B8G8R8, X8B8G8R8, G16R16, A2R10G10B10, A16B16G16R16, L8, A8L8, V8U8, \
+         Q8W8V8U8, L16, A32B32G32R32F, YUY2, UYVY, YV12 and NV12"
     );
     assert_eq!(
         pair_text(D3DFMT_A16B16G16R16, D3DFMT_R5G6B5),
@@ -108,6 +109,11 @@ fn frames_one_byte_short() {
         convert_text(8, 3, D3DFMT_YUY2, &region(2, 1, 4, 8)),
         "source outside: the frame has 3 bytes, the region needs 4; \
          the first texel outside is column 0, row 0"
+    );
+    assert_eq!(
+        convert_text(8, 3, D3DFMT_V8U8, &region(2, 1, 4, 8)),
+        "source outside: the frame has 3 bytes, the region needs 4; \
+         the first texel outside is column 1, row 0"
     );
 }
 
@@ -355,7 +361,7 @@ fn mended(mut lens: [usize; 2], src_format: u32, region: &ConvertRegion) -> usiz
 #[test]
 fn lending_what_a_text_asks_for_mends_it() {
     let yuv = [D3DFMT_YV12, D3DFMT_NV12, D3DFMT_YUY2, D3DFMT_UYVY];
-    let texels = RGB.iter().chain(&WIDE).map(|(format, _)| *format);
+    let texels = RGB.iter().chain(&TO_A8R8G8B8).map(|(format, _)| *format);
     let sources: Vec<u32> = texels.chain(yuv).collect();
     let mut numbers = Numbers::new(7);
     let mut count = 0;

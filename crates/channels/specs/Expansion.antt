@@ -3,12 +3,15 @@
 -- Assumes nothing.
 use mathlib.Core.Path.{_≡_, sym, ap, ap₂, _∙_, subst}
 use mathlib.Core.Bool.{Bool}
+use mathlib.Core.Logic.{inl, inr}
 use Prim.Native.Nat.{ℕ, zero, suc, _+_, _*_, _-_, _/_, _%_, _^_, _≤_, _<_}
 use native.Mathlib.Omega.{arith}
-use native.Mathlib.Nat.{not-suc-le-zero, add-mul, mul-add, mul-one, mul-assoc, mul-comm, mul-le-mul-left, mul-le-mul-right, mod-lt, div-add-mod'}
+use native.Mathlib.Nat.{not-suc-le-zero, add-mul, mul-add, mul-one, mul-assoc, mul-comm, mul-right-comm, mul-le-mul-left, mul-le-mul-right, mod-lt, div-add-mod'}
 use lib.Pow.{pow-add, pow-pos, shr-lt}
 use lib.Dec.{T, eqb, ltb, eqb→eq, ltb→lt}
 use Rattle.words.specs.Computed.{everyBelow, below-at}
+use Rattle.words.specs.Tests.{split}
+use Rattle.channels.specs.Nearest.{step}
 
 -- v, again n bits lower, and so on, m times over
 abbrev pub repeated : ℕ → ℕ → ℕ → ℕ
@@ -70,6 +73,20 @@ expands n l u k h = record {
   not-above = ltb→lt _ _ (below-at (low-enough n) (2 ^ n) (by-width (EachCode low-enough) tt tt tt tt tt tt tt tt n l u) k h);
   not-below = ltb→lt _ _ (below-at (high-enough n) (2 ^ n) (by-width (EachCode high-enough) tt tt tt tt tt tt tt tt n l u) k h);
 }
+
+-- where 2^n - 1 divides 255, to expand is to multiply
+pub expanded-whole : (n k q : ℕ) → 1 ≤ n → n ≤ 8 → k < 2 ^ n → q * (2 ^ n - 1) ≡ 255 → expanded n k ≡ q * k
+expanded-whole n k q l u h e =
+    let m = 2 ^ n - 1 in
+    let o = expands n l u k h in
+    let f : 255 * k ≡ q * k * m = ap (λ x. x * k) (sym e) ∙ mul-right-comm q m k in
+    elim (split (expanded n k) (q * k)) [
+      | inl a ↦ absurd (omega (arith, o .not-below, f, step (expanded n k) (q * k) m a))
+      | inr a ↦ elim (split (q * k) (expanded n k)) [
+        | inl b ↦ absurd (omega (arith, o .not-above, f, step (q * k) (expanded n k) m b))
+        | inr b ↦ omega arith
+      ]
+    ]
 
 -- a byte truncates to n bits, which stand for a number that lies within 2^(8-n) - 1 of it
 pub record Truncates (n v : ℕ) : Type 0 where

@@ -11,12 +11,20 @@ ghost use Rattle.channels.specs.Expansion.{expanded, truncated};
 ghost use Rattle.channels.specs.Nearest.{rounded, Nearest, NearestUp};
 ghost use Rattle.channels.specs.Luminance.{luminanceOf};
 ghost use Rattle.channels.specs.Floats.{clamped};
+ghost use Rattle.channels.specs.Exact.{notNegative};
 
 // The lowest bit of a word as a byte: 0 or 255.
 pub fn expand1(v: u16) -> u8
     ensures { λ r. ⌜ r ≡ expanded 1 (v % 2) ⌝ }
 {
     if v & 1 == 0 { 0 } else { 0xff }
+}
+
+// The two low bits of a word as a byte: the bits four times over, which is 85 times their number.
+pub fn expand2(v: u32) -> u8
+    ensures { λ r. ⌜ r ≡ expanded 2 (v % 4) ⌝ }
+{
+    (v % 4 * 85) as u8
 }
 
 // The four low bits of a word as a byte: the bits, and again.
@@ -124,6 +132,38 @@ pub fn unorm8_to_unorm16(channel: u8) -> u16
     ensures { λ r. ⌜ r ≡ channel * 257 ⌝ }
 {
     (channel as u16) * 257
+}
+
+// The byte nearest to a code on a scale whose top code is max, a half up.
+pub fn nearest_byte(code: u32, max: u32) -> u8
+    requires { ⌜ (code ≤ max) × (0 < max) × (max ≤ 65535) ⌝ }
+    ensures is { λ r. ⌜ r ≡ rounded (255 * code) max ⌝ }
+    ensures nearest { λ r. ⌜ NearestUp (255 * code) max r ⌝ }
+{
+    ((510 * code + max) / (2 * max)) as u8
+}
+
+// The ten low bits of a word as the nearest byte. 1023 is odd, so there is no tie.
+pub fn unorm10_to_unorm8(v: u32) -> u8
+    ensures is { λ r. ⌜ r ≡ rounded (255 * (v % 1024)) 1023 ⌝ }
+    ensures nearest { λ r. ⌜ Nearest (255 * (v % 1024)) 1023 r ⌝ }
+{
+    nearest_byte(v % 1024, 1023)
+}
+
+// An eight-bit code with a sign, and 0 where it is negative; the compiler makes no jump of it.
+fn not_negative8(code: u32) -> u32
+    ensures { λ r. ⌜ r ≡ notNegative 8 code ⌝ }
+{
+    if code < 128 { code } else { 0 }
+}
+
+// The eight low bits of a word, a code with a sign, as the nearest byte: 0 where it is negative. 127 is odd, so there is no tie.
+pub fn snorm8_to_unorm8(v: u32) -> u8
+    ensures is { λ r. ⌜ r ≡ rounded (255 * notNegative 8 (v % 256)) 127 ⌝ }
+    ensures nearest { λ r. ⌜ Nearest (255 * notNegative 8 (v % 256)) 127 r ⌝ }
+{
+    nearest_byte(not_negative8(v % 256), 127)
 }
 
 // A sixteen-bit code as the nearest byte. 257 is odd, so there is no tie.

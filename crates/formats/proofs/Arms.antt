@@ -1,16 +1,17 @@
 -- The arms of a `match` on a code, and the tests between ranges of codes, in words of a list of codes.
 -- Assumes nothing.
 use mathlib.Core.Path.{_≡_, refl, sym, subst}
-use mathlib.Core.Bool.{Bool, true, false, not}
+use mathlib.Core.Bool.{Bool, true, false, not, _||_, false≢true}
 use mathlib.Core.List.{List, [], _∷_}
 use mathlib.Core.Logic.{inl, inr}
 use Prim.Native.Nat.{ℕ, _≤_, _<_}
 use native.Mathlib.Omega.{arith}
-use lib.Dec.{T, ltb, ltb→lt, eqb}
+use lib.Dec.{T, leb, ltb, leb→le, ltb→lt, eqb}
 use borrow.Author.Tests.{eq-eqb, ne-eqb}
 use types.Run.{OneOf}
 use Rattle.words.specs.Computed.{both, both-left, both-right, everyBetween, between-at}
 use Rattle.formats.specs.Classes.{listed}
+use Rattle.formats.specs.Listed.{everyCode, listed-at}
 
 pub true-is : (b : Bool) → T b → true ≡ b
 true-is true t = refl
@@ -61,3 +62,23 @@ module _ (class : ℕ → Bool) (low high x : ℕ) (l : low ≤ x) (u : x < high
 
   pub out-of-range : T (everyBetween (λ k. not (class k)) low high) → false ≡ class x
   out-of-range t = false-is (class x) (between-at (λ k. not (class k)) low high t x l u)
+
+-- an arm's codes, all of them of a class's list
+pub among : (gs ks : List ℕ) (x : ℕ) → OneOf gs x → T (everyCode (λ g. listed g ks) gs) → true ≡ listed x ks
+among gs ks x o t = true-is (listed x ks) (listed-at (λ g. listed g ks) gs t x (sym (listed-yes gs x o)))
+
+-- a class's list lies in an arm's codes and a range: what is outside both is not of the class
+module _ (low high : ℕ) (gs : List ℕ) where
+  abbrev covers : ℕ → Bool
+  covers k = listed k gs || both (leb low k) (ltb k high)
+
+  pub outside : (ks : List ℕ) (x : ℕ) → (OneOf gs x → ⊥) → (low ≤ x → x < high → ⊥) → T (everyCode covers ks) → false ≡ listed x ks
+  outside ks x o r t = go (listed x ks) refl
+    where
+      none : (b : Bool) → false ≡ b → T (b || both (leb low x) (ltb x high)) → ⊥
+      none true e h = false≢true e
+      none false e h = r (leb→le low x (both-left (leb low x) (ltb x high) h)) (ltb→lt x high (both-right (leb low x) (ltb x high) h))
+
+      go : (b : Bool) → listed x ks ≡ b → false ≡ b
+      go true e = absurd (none (listed x gs) (listed-no gs x o) (listed-at covers ks t x e))
+      go false e = refl

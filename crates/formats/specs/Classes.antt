@@ -5,7 +5,7 @@ use mathlib.Core.List.{List, [], _∷_}
 use Prim.Native.Nat.{ℕ}
 use lib.Dec.{eqb}
 use Rattle.words.specs.Multiples.{raised}
-use Rattle.formats.specs.Codes.{R8G8B8, A8R8G8B8, X8R8G8B8, R5G6B5, X1R5G5B5, A1R5G5B5, A4R4G4B4, A8, A8B8G8R8, X8B8G8R8, A16B16G16R16, L8, A8L8, A32B32G32R32F, YUY2, UYVY, YV12, NV12}
+use Rattle.formats.specs.Codes.{R8G8B8, A8R8G8B8, X8R8G8B8, R5G6B5, X1R5G5B5, A1R5G5B5, A4R4G4B4, A8, A2B10G10R10, A8B8G8R8, X8B8G8R8, G16R16, A2R10G10B10, A16B16G16R16, L8, A8L8, V8U8, Q8W8V8U8, L16, A32B32G32R32F, YUY2, UYVY, YV12, NV12}
 
 -- f is one of a list of codes
 abbrev pub listed : ℕ → List ℕ → Bool
@@ -27,16 +27,16 @@ isPackedYuv f = listed f (YUY2 ∷ UYVY ∷ [])
 unfoldable pub isPlanarYuv : ℕ → Bool
 isPlanarYuv f = listed f (NV12 ∷ YV12 ∷ [])
 
--- four channels of 16 bits, or of binary32
-abbrev pub wideFormats : List ℕ
-wideFormats = A16B16G16R16 ∷ A32B32G32R32F ∷ []
+-- the sources of A8R8G8B8 alone: four channels of 16 bits or of binary32; ten-bit stills, pairs and luminance of 16 bits; normal maps
+abbrev pub argbSources : List ℕ
+argbSources = A16B16G16R16 ∷ A32B32G32R32F ∷ A2R10G10B10 ∷ A2B10G10R10 ∷ G16R16 ∷ L16 ∷ V8U8 ∷ Q8W8V8U8 ∷ []
 
-unfoldable pub isWideRgba : ℕ → Bool
-isWideRgba f = listed f wideFormats
+unfoldable pub isArgbSource : ℕ → Bool
+isArgbSource f = listed f argbSources
 
--- the sources whose texels are words with lanes: the RGB formats, and the wide ones
+-- the sources whose texels are words with lanes: the RGB formats, and those of A8R8G8B8 alone
 unfoldable pub isLaneSource : ℕ → Bool
-isLaneSource f = isConvertibleRgb f || isWideRgba f
+isLaneSource f = isConvertibleRgb f || isArgbSource f
 
 -- the width raised to a multiple of 4: the pitch of a row of texels of one byte
 unfoldable pub linearRowPitch : ℕ → ℕ

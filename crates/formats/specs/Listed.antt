@@ -9,10 +9,10 @@ use borrow.Author.Tests.{eqb-true, ne-eqb}
 use Rattle.words.specs.Computed.{both, both-left, both-right}
 use Rattle.formats.specs.Codes.{YV12, NV12}
 use Rattle.formats.specs.Table.{partsOf, bytesOf}
-use Rattle.formats.specs.Classes.{listed, rgbFormats, wideFormats, isConvertibleRgb, isPackedYuv, isPlanarYuv, isWideRgba, isLaneSource}
+use Rattle.formats.specs.Classes.{listed, rgbFormats, argbSources, isConvertibleRgb, isPackedYuv, isPlanarYuv, isArgbSource, isLaneSource}
 
 -- a test at every code of a list holds of a code that is in it
-abbrev everyCode : (ℕ → Bool) → List ℕ → Bool
+abbrev pub everyCode : (ℕ → Bool) → List ℕ → Bool
 everyCode t [] = true
 everyCode t (g ∷ gs) = both (t g) (everyCode t gs)
 
@@ -32,6 +32,14 @@ NoCode f (g ∷ gs) = (f ≡ g → ⊥) × NoCode f gs
 pub not-listed : (f : ℕ) (gs : List ℕ) → NoCode f gs → listed f gs ≡ false
 not-listed f [] h = refl
 not-listed f (g ∷ gs) h = subst (λ (b : Bool). elim b [ true ↦ true | false ↦ listed f gs ] ≡ false) (sym (ne-eqb f g (h .0))) (not-listed f gs (h .1))
+
+-- nor in a list of some of its codes
+pub not-among : (gs ks : List ℕ) (f : ℕ) → listed f ks ≡ false → T (everyCode (λ g. listed g ks) gs) → listed f gs ≡ false
+not-among gs ks f n t = go (listed f gs) refl
+  where
+    go : (b : Bool) → listed f gs ≡ b → b ≡ false
+    go true e = absurd (subst T n (listed-at (λ g. listed g ks) gs t f e))
+    go false e = refl
 
 -- ---- RGB formats: their texels have bytes, and are no YUV
 pub rgb-some : (f : ℕ) → isConvertibleRgb f ≡ true → 0 < bytesOf f
@@ -53,10 +61,10 @@ planar-not-packed f h = is-false (isPackedYuv f) (listed-at (λ g. not (isPacked
 
 -- a texel with lanes has bytes
 pub lane-some : (f : ℕ) → isLaneSource f ≡ true → 0 < bytesOf f
-unfolding isLaneSource isWideRgba bytesOf partsOf
-lane-some f h = go (isConvertibleRgb f) (isWideRgba f) refl refl h
+unfolding isLaneSource isArgbSource bytesOf partsOf
+lane-some f h = go (isConvertibleRgb f) (isArgbSource f) refl refl h
   where
-    go : (a b : Bool) → isConvertibleRgb f ≡ a → isWideRgba f ≡ b → (a || b) ≡ true → 0 < bytesOf f
+    go : (a b : Bool) → isConvertibleRgb f ≡ a → isArgbSource f ≡ b → (a || b) ≡ true → 0 < bytesOf f
     go true b e g k = rgb-some f e
-    go false true e g k = ltb→lt 0 (bytesOf f) (listed-at (λ g. ltb 0 (bytesOf g)) wideFormats tt f g)
+    go false true e g k = ltb→lt 0 (bytesOf f) (listed-at (λ g. ltb 0 (bytesOf g)) argbSources tt f g)
     go false false e g k = absurd (false≢true k)

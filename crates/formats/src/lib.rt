@@ -5,7 +5,7 @@ ghost use mathlib.Core.Path.{_≡_};
 ghost use Prim.Native.Nat.{_≤_};
 ghost use Rattle.formats.specs.Table.{bytesOf};
 ghost use Rattle.words.specs.Multiples.{Raised};
-ghost use Rattle.formats.specs.Classes.{isConvertibleRgb, isPackedYuv, isPlanarYuv, isWideRgba, linearRowPitch};
+ghost use Rattle.formats.specs.Classes.{isConvertibleRgb, isPackedYuv, isPlanarYuv, isArgbSource, linearRowPitch};
 
 pub const D3DFMT_R8G8B8: u32 = 20;
 
@@ -119,12 +119,19 @@ pub fn is_planar_yuv(d3d_format: u32) -> bool
     }
 }
 
-// Whether a format has four channels wider than a byte that convert into A8R8G8B8.
-pub fn is_wide_rgba(d3d_format: u32) -> bool
-    ensures { λ r. ⌜ r ≡ isWideRgba «d3d_format» ⌝ }
+// Whether a format is no RGB format and converts into A8R8G8B8 alone.
+pub fn is_argb_source(d3d_format: u32) -> bool
+    ensures { λ r. ⌜ r ≡ isArgbSource «d3d_format» ⌝ }
 {
     match d3d_format {
-        D3DFMT_A16B16G16R16 | D3DFMT_A32B32G32R32F => true,
+        D3DFMT_A16B16G16R16
+        | D3DFMT_A32B32G32R32F
+        | D3DFMT_A2R10G10B10
+        | D3DFMT_A2B10G10R10
+        | D3DFMT_G16R16
+        | D3DFMT_L16
+        | D3DFMT_V8U8
+        | D3DFMT_Q8W8V8U8 => true,
         _ => false,
     }
 }

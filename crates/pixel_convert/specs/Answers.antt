@@ -9,7 +9,7 @@ use lib.Dec.{eqb}
 use lib.ListN.{length, getD}
 use borrow.Author.Tests.{eqb-true, eq-eqb}
 use Rattle.words.specs.Iterate.{iterate-keeps}
-use Rattle.formats.specs.Classes.{isConvertibleRgb, isPackedYuv, isPlanarYuv, isWideRgba, isLaneSource}
+use Rattle.formats.specs.Classes.{isConvertibleRgb, isPackedYuv, isPlanarYuv, isArgbSource, isLaneSource}
 use Rattle.pixel_convert.specs.declared.ConvertRegion.{ConvertRegion}
 use Rattle.pixel_convert.specs.declared.ConvertReply.{ConvertReply}
 use Rattle.pixel_convert.specs.declared.ConvertReply.the-variants.{Accepted, Unsupported, PlanarShape, SourceOutside, DestinationOutside}
@@ -22,7 +22,7 @@ use Rattle.pixel_convert.specs.Rows.{RowFits}
 -- ---- the source of a pair that converts is a picture
 pub convert-picture : (s d : ℕ) → canConvert s d ≡ true → isPicture s ≡ true
 unfolding canConvert canConvertUpdate isPicture isLaneSource
-convert-picture s d h = go (isConvertibleRgb s) (isPackedYuv s) (isConvertibleRgb d) (eqb d 21) (isWideRgba s) (isPlanarYuv s) h
+convert-picture s d h = go (isConvertibleRgb s) (isPackedYuv s) (isConvertibleRgb d) (eqb d 21) (isArgbSource s) (isPlanarYuv s) h
   where
     go : (a k b e w p : Bool) → (((a || k) && b) || (e && w) || (p && b)) ≡ true → (a || w || k || p) ≡ true
     go true k b e w p h = refl

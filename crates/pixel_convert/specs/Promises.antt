@@ -12,7 +12,7 @@ use Rattle.words.specs.Little.{number}
 use Rattle.words.specs.Tests.{pick}
 use Rattle.formats.specs.Codes.{A8R8G8B8}
 use Rattle.formats.specs.Table.{laneOf, bytesOf}
-use Rattle.formats.specs.Classes.{isConvertibleRgb, isPackedYuv, isPlanarYuv, isWideRgba}
+use Rattle.formats.specs.Classes.{isConvertibleRgb, isPackedYuv, isPlanarYuv, isArgbSource}
 use Rattle.formats.specs.Listed.{rgb-some, rgb-not-planar, rgb-not-packed}
 use Rattle.channels.specs.Fractions.{whole-near}
 use Rattle.stretch_rect.specs.Yuv.{bt601, rgbOf, redRounded, greenRounded, blueRounded}
@@ -31,7 +31,7 @@ use Rattle.pixel_convert.specs.Own.{region-other, region-own}
 -- ---- the destination of a pair that converts is one
 pub convert-rgb : (s d : ℕ) → canConvert s d ≡ true → isConvertibleRgb d ≡ true
 unfolding canConvert canConvertUpdate isConvertibleRgb
-convert-rgb s d h = go (isConvertibleRgb s || isPackedYuv s) (isConvertibleRgb d) (eqb d A8R8G8B8) (isWideRgba s) (isPlanarYuv s) refl refl h
+convert-rgb s d h = go (isConvertibleRgb s || isPackedYuv s) (isConvertibleRgb d) (eqb d A8R8G8B8) (isArgbSource s) (isPlanarYuv s) refl refl h
   where
     go : (a b c w p : Bool) → isConvertibleRgb d ≡ b → eqb d A8R8G8B8 ≡ c → ((a && b) || (c && w) || (p && b)) ≡ true → isConvertibleRgb d ≡ true
     go a true c w p e f k = e

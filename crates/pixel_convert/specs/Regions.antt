@@ -13,7 +13,7 @@ use Rattle.words.specs.Iterate.{iterate}
 use Rattle.formats.specs.Codes.{A8R8G8B8}
 use Rattle.formats.specs.Lanes.{Channel}
 use Rattle.formats.specs.Table.{laneOf, bytesOf}
-use Rattle.formats.specs.Classes.{isConvertibleRgb, isPackedYuv, isPlanarYuv, isWideRgba}
+use Rattle.formats.specs.Classes.{isConvertibleRgb, isPackedYuv, isPlanarYuv, isArgbSource}
 use Rattle.channels.specs.Fractions.{_over_}
 use Rattle.stretch_rect.specs.declared.Rgb.{Rgb}
 use Rattle.stretch_rect.specs.Yuv.{bt601, rgbOf, decimalUnit, redDecimal, greenDecimal, blueDecimal}
@@ -33,7 +33,7 @@ canConvertUpdate s d = (isConvertibleRgb s || isPackedYuv s) && isConvertibleRgb
 
 -- these, a wide source into A8R8G8B8, and a planar source into RGB
 unfoldable pub canConvert : (source destination : ℕ) → Bool
-canConvert s d = canConvertUpdate s d || (eqb d A8R8G8B8 && isWideRgba s) || (isPlanarYuv s && isConvertibleRgb d)
+canConvert s d = canConvertUpdate s d || (eqb d A8R8G8B8 && isArgbSource s) || (isPlanarYuv s && isConvertibleRgb d)
 
 -- ---- the texel of a source
 -- where luma, U and V stand in a YUV texel's bytes: in a macropixel by its format, in a planar texel in that order

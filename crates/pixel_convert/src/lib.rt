@@ -11,7 +11,7 @@ ghost use lib.ListN.{length, take};
 ghost use lib.Seq.{sets};
 ghost use Rattle.formats.specs.Codes.{A8R8G8B8, A16B16G16R16};
 ghost use Rattle.formats.specs.Table.{bytesOf};
-ghost use Rattle.formats.specs.Classes.{isConvertibleRgb, isPackedYuv, isPlanarYuv, isWideRgba};
+ghost use Rattle.formats.specs.Classes.{isConvertibleRgb, isPackedYuv, isPlanarYuv, isArgbSource};
 ghost use Rattle.planar_yuv.specs.Answers.{Legal};
 ghost use Rattle.texels.specs.Texels.{encodedBytes};
 ghost use Rattle.places.specs.Places.{isPicture, texelStart, layoutPlaces, placesAt, placesIn, bytesAt};
@@ -246,7 +246,7 @@ fn convert_row(
     requires { ⌜ RowFits (length (now src)) (length (now dst)) «src_format» «dst_format» region z row ⌝ }
     ensures { λ _. ⌜ now (dst .exit) ≡ rowWritten (now (src .entry)) «src_format» «dst_format» region z row (now (dst .entry)) ⌝ }
 {
-    if is_wide_pair(src_format, dst_format) {
+    if is_argb_pair(src_format, dst_format) {
         if src_format == D3DFMT_A16B16G16R16 {
             wide_row(dst, src, region, z, row);
             return;
@@ -305,11 +305,11 @@ pub fn can_convert_update(src_format: u32, dst_format: u32) -> bool
     formats::is_packed_yuv(src_format)
 }
 
-fn is_wide_pair(src_format: u32, dst_format: u32) -> bool
-    ensures { λ r. ⌜ r ≡ (eqb «dst_format» A8R8G8B8 && isWideRgba «src_format») ⌝ }
+fn is_argb_pair(src_format: u32, dst_format: u32) -> bool
+    ensures { λ r. ⌜ r ≡ (eqb «dst_format» A8R8G8B8 && isArgbSource «src_format») ⌝ }
 {
     if dst_format == D3DFMT_A8R8G8B8 {
-        return formats::is_wide_rgba(src_format);
+        return formats::is_argb_source(src_format);
     }
     false
 }
@@ -330,7 +330,7 @@ pub fn can_convert(src_format: u32, dst_format: u32) -> bool
     if can_convert_update(src_format, dst_format) {
         return true;
     }
-    if is_wide_pair(src_format, dst_format) {
+    if is_argb_pair(src_format, dst_format) {
         return true;
     }
     is_planar_pair(src_format, dst_format)

@@ -1,8 +1,8 @@
-// Replays recorded answers of the original: reads the files `vectors`, `values` and `buffers`, computes each call anew, and
-// prints for each call how many cases there are and how many of them differ. `vectors` has records of four little-endian
-// 32-bit words (call, a, b, answer) for the arithmetic of one channel; the other two have records for every public call, which
-// src/values.rt and src/buffers.rt describe. oracle/record.rs recorded all three from the original Rust; oracle/README.md
-// lists the calls.
+// Replays recorded answers: reads the files `vectors`, `values` and `buffers`, computes each call anew, and prints for each call
+// how many cases there are and how many of them differ. `vectors` has records of four little-endian 32-bit words (call, a, b,
+// answer) for the arithmetic of one channel; the other two have records for every public call, which src/values.rt and
+// src/buffers.rt describe. oracle/record.rs recorded all three, from the original Rust and, for pairs of formats that it does
+// not convert, from the exact fractions of oracle/stills.rs; oracle/README.md lists the calls.
 mod buffers;
 mod values;
 
@@ -30,6 +30,7 @@ fn answer(call: u32, a: u32, b: u32) -> u32 {
         13 => channels::f32_to_unorm8(a) as u32,
         14 => formats::linear_row_pitch(a % 16385),
         15 => (formats::bytes_per_texel(a) % 256) as u32,
+        29 => nearest_byte(a, b),
         _ => 0xffff_ffff,
     }
 }
@@ -41,6 +42,16 @@ fn nearest_code(channel: u8, max: u32) -> u32 {
         1023 => channels::unorm8_to_unorm10(channel),
         127 => channels::unorm8_to_snorm8(channel) as u32,
         32767 => channels::unorm8_to_snorm16(channel) as u32,
+        _ => 0xffff_ffff,
+    }
+}
+
+// The nearest byte by the function of its own scale.
+fn nearest_byte(code: u32, max: u32) -> u32 {
+    match max {
+        3 => channels::expand2(code) as u32,
+        1023 => channels::unorm10_to_unorm8(code) as u32,
+        127 => channels::snorm8_to_unorm8(code) as u32,
         _ => 0xffff_ffff,
     }
 }
@@ -167,7 +178,7 @@ fn print_call(name: &[u8], cases: u64, differ: u64) {
     io::write_all(STDOUT_FILENO, b" differ\n");
 }
 
-// A public call by its number, with how many of its cases the original refuses.
+// A public call by its number, with how many of its cases are refused.
 fn print_public(name: &[u8], call: u32, cases: [u64; 32], refused: [u64; 32], differ: [u64; 32]) {
     let place = place_of(call);
     io::write_all(STDOUT_FILENO, name);
@@ -195,6 +206,7 @@ fn print_counts(cases: [u64; 32], differ: [u64; 32]) {
     print_call(b"f32_to_unorm8       ", cases[13], differ[13]);
     print_call(b"linear_row_pitch    ", cases[14], differ[14]);
     print_call(b"bytes_per_texel     ", cases[15], differ[15]);
+    print_call(b"nearest byte        ", cases[29], differ[29]);
 }
 
 fn print_public_counts(cases: [u64; 32], refused: [u64; 32], differ: [u64; 32]) {

@@ -1,12 +1,18 @@
--- An arm of the decoder's and the encoder's dispatch: the format is the arm's code, its bytes are read or stored as one word.
+-- An arm of the decoder's and the encoder's dispatch: the format is the arm's code, its bytes are read or stored as one word;
+-- and what is left where no arm has matched.
 -- Assumes nothing.
 use mathlib.Core.Path.{_≡_, sym, ap, ap₂, _∙_, subst}
-use mathlib.Core.List.{List}
-use Prim.Native.Nat.{ℕ}
+use mathlib.Core.Bool.{false}
+use mathlib.Core.List.{List, [], _∷_}
+use Prim.Native.Nat.{ℕ, _/_}
+use native.Mathlib.Nat.{div-one}
+use lib.Dec.{T}
 use lib.ListN.{take}
 use lib.Seq.{sets}
 use Rattle.words.specs.Little.{number, bytes}
 use Rattle.formats.specs.Table.{bytesOf}
+use Rattle.formats.specs.Classes.{listed}
+use Rattle.formats.specs.Listed.{everyCode, NoCode, not-listed, not-among}
 use Rattle.texels.specs.declared.Texel.{Texel}
 use Rattle.texels.specs.Texels.{decodedOf, encodedOf, encodedBytes}
 
@@ -20,3 +26,24 @@ decode-arm f k n v l t e b r d =
 pub encode-arm : (f k n v : ℕ) (l out : List ℕ) (t : Texel) → f ≡ k → bytesOf k ≡ n → v ≡ encodedOf k t → out ≡ sets l 0 (bytes n v) → out ≡ sets l 0 (encodedBytes f t)
 unfolding encodedBytes
 encode-arm f k n v l out t e b w o = o ∙ ap₂ (λ m u. sets l 0 (bytes m u)) (sym b) w ∙ ap (λ g. sets l 0 (bytes (bytesOf g) (encodedOf g t))) (sym e)
+
+-- no arm has matched; the last arm's code comes first
+abbrev pub Missed : (codes : List ℕ) → ℕ → Type 0
+Missed [] f = Unit {0}
+Missed (k ∷ ks) f = Missed ks f × (f ≡ k → ⊥)
+
+no-code : (ks : List ℕ) (f : ℕ) → Missed ks f → NoCode f ks
+no-code [] f m = tt
+no-code (k ∷ ks) f m = (m .1, no-code ks f (m .0))
+
+-- then a list of some of the arms' codes has not got this one
+pub no-arm : (ks gs : List ℕ) (f : ℕ) → Missed ks f → T (everyCode (λ g. listed g ks) gs) → listed f gs ≡ false
+no-arm ks gs f m t = not-among gs ks f (not-listed f ks (no-code ks f m)) t
+
+-- the lowest lane is read with no shift
+pub unshifted : (read : ℕ → ℕ) (v : ℕ) → read v ≡ read (v / 1)
+unshifted read v = ap read (sym (div-one v))
+
+-- a texel is its four bytes
+pub four-bytes : {r r′ g g′ b b′ a a′ : ℕ} → r ≡ r′ → g ≡ g′ → b ≡ b′ → a ≡ a′ → _≡_ {A = Texel} (record { r = r; g = g; b = b; a = a }) (record { r = r′; g = g′; b = b′; a = a′ })
+four-bytes p q s t = λ i. record { r = p i; g = q i; b = s i; a = t i }

@@ -5,32 +5,47 @@ use mathlib.Core.Bool.{Bool, true, false, false≢true}
 use mathlib.Core.List.{List, [], _∷_}
 use Prim.Native.Nat.{ℕ, _*_, _-_, _/_, _^_, _≤_, _<_}
 use native.Mathlib.Omega.{arith}
-use native.Mathlib.Nat.{mod-lt, mul-le-mul-left}
+use native.Mathlib.Nat.{le-trans, mod-lt, mul-le-mul-left}
 use lib.Pow.{pow-pos, pow-mono, le-ones}
-use lib.Dec.{T, leb, leb→le}
+use lib.Dec.{T, leb, leb→le, eqb}
 use lib.Ieee.{binary32, ofBits}
 use borrow.Author.Tests.{leb-true}
 use Rattle.words.specs.Little.{number, number-bytes}
 use Rattle.words.specs.Tests.{pick}
 use Rattle.words.specs.Computed.{both, both-left, both-right}
-use Rattle.formats.specs.Lanes.{Channel, Channel-discrete, red, green, blue, alpha, luminance, depth, stencil, padding, unsigned, signed, float16, float32, ignored, Part, Lane, nowhere, at, bits, find, codeAt, packed}
+use Rattle.formats.specs.Lanes.{Channel, Channel-discrete, red, green, blue, alpha, luminance, depth, stencil, padding, Kind, unsigned, signed, float16, float32, ignored, Part, Lane, nowhere, at, bits, find, codeAt, packed}
+use Rattle.formats.specs.Codes.{A8}
 use Rattle.formats.specs.Table.{partsOf, laneOf, bytesOf, by-table, lanes-filled}
 use Rattle.formats.specs.Classes.{rgbFormats, isConvertibleRgb}
 use Rattle.formats.specs.Listed.{listed-at}
 use Rattle.formats.specs.Packing.{Fit, Held, reads, packed-lt}
 use Rattle.channels.specs.Fractions.{_over_, Near, triangle, weaker, whole-near, mean-near}
 use Rattle.channels.specs.Expansion.{expanded, truncated, expands, truncates}
-use Rattle.channels.specs.Nearest.{rounded, rounded-le}
+use Rattle.channels.specs.Nearest.{rounded-le}
 use Rattle.channels.specs.Luminance.{luminanceOf, luminance-near, luminance-byte}
 use Rattle.channels.specs.Floats.{clamped, bottom-pos, top-le}
-use Rattle.channels.specs.Exact.{codeValue, floatValue, expanded-near, truncated-near, rounded-near}
+use Rattle.channels.specs.Exact.{codeValue, notNegative, signed-le, expanded-near, truncated-near, rounded-near}
 use Rattle.texels.specs.declared.Texel.{Texel}
-use Rattle.texels.specs.Texels.{codeByte, floatByte, laneByte, orElse, colourOf, decodedOf, byteOf, codeOf, encodedOf, encodedBytes, laneValue, Values, valueOf, exactOf, Stands, quarters, isColour, Holds}
+use Rattle.texels.specs.Texels.{nearestByte, codeByte, laneByte, orElse, colourOf, missingColour, decodedOf, byteOf, codeOf, encodedOf, encodedBytes, laneValue, Values, valueOf, exactOf, Stands, quarters, isColour, Holds}
 
--- ---- every lane of the table has a width of at least one bit, and those of an RGB format at most eight
+-- ---- every lane of the table has a width of at least one bit, two where it has a sign, and those of an RGB format at most eight
+abbrev least : Kind → ℕ
+least unsigned = 1
+least signed = 2
+least float16 = 1
+least float32 = 1
+least ignored = 1
+
+some-bit : (k : Kind) → 1 ≤ least k
+some-bit unsigned = omega arith
+some-bit signed = omega arith
+some-bit float16 = omega arith
+some-bit float32 = omega arith
+some-bit ignored = omega arith
+
 abbrev wide : List Part → Bool
 wide [] = true
-wide (p ∷ ps) = both (leb 1 (p .width)) (wide ps)
+wide (p ∷ ps) = both (leb (least (p .kind)) (p .width)) (wide ps)
 
 abbrev narrow : List Part → Bool
 narrow [] = true
@@ -38,7 +53,7 @@ narrow (p ∷ ps) = both (leb (p .width) 8) (narrow ps)
 
 abbrev pub Wide : Lane → Type 0
 Wide nowhere = Unit {0}
-Wide (at low n k) = 1 ≤ n
+Wide (at low n k) = least k ≤ n
 
 abbrev pub Narrow : Lane → Type 0
 Narrow nowhere = Unit {0}
@@ -46,10 +61,10 @@ Narrow (at low n k) = n ≤ 8
 
 found-wide : (c : Channel) (ps : List Part) → T (wide ps) → Wide (find c ps)
 found-wide c [] t = tt
-found-wide c (p ∷ ps) t = go (Channel-discrete c (p .channel)) (found-wide c ps (both-right (leb 1 (p .width)) (wide ps) t))
+found-wide c (p ∷ ps) t = go (Channel-discrete c (p .channel)) (found-wide c ps (both-right (leb (least (p .kind)) (p .width)) (wide ps) t))
   where
     go : (x : Dec (c ≡ p .channel)) → Wide (find c ps) → Wide (elim x [ yes e ↦ at (bits ps) (p .width) (p .kind) | no u ↦ find c ps ])
-    go (yes e) r = leb→le 1 (p .width) (both-left (leb 1 (p .width)) (wide ps) t)
+    go (yes e) r = leb→le (least (p .kind)) (p .width) (both-left (leb (least (p .kind)) (p .width)) (wide ps) t)
     go (no u) r = r
 
 found-narrow : (c : Channel) (ps : List Part) → T (narrow ps) → Narrow (find c ps)
@@ -87,31 +102,29 @@ code-lt low n w = mod-lt (w / 2 ^ low) (pow-pos n)
 ones-pos : (n : ℕ) → 1 ≤ n → 0 < 2 ^ n - 1
 ones-pos n h = omega (arith, pow-mono {i = 1} {j = n} h)
 
+-- k/d of full scale, and the byte nearest to it
+module _ (k d : ℕ) (D : 0 < d) where
+  nearest-byte : k ≤ d → nearestByte (255 * k over d) < 256
+  nearest-byte h = omega (arith, rounded-le (255 * k) d 255 D (mul-le-mul-left 255 h))
+
+  nearest-near : Near 3 (nearestByte (255 * k over d) over 1) (255 * k over d)
+  nearest-near = weaker {p = 2} (omega arith) (rounded-near (255 * k) d D)
+
 -- a code of n bits
 module _ (n k : ℕ) (h : 1 ≤ n) (l : k < 2 ^ n) where
   code-byte : codeByte n k < 256
   code-byte = go (leb n 8) refl
     where
-      go : (b : Bool) → leb n 8 ≡ b → pick b (expanded n k) (rounded (255 * k) (2 ^ n - 1)) < 256
+      go : (b : Bool) → leb n 8 ≡ b → pick b (expanded n k) (nearestByte (codeValue n k)) < 256
       go true e = expands n h (leb-true n 8 e) k l .byte
-      go false e = omega (arith, rounded-le (255 * k) (2 ^ n - 1) 255 (ones-pos n h) (mul-le-mul-left 255 (le-ones n l)))
+      go false e = nearest-byte k (2 ^ n - 1) (ones-pos n h) (le-ones n l)
 
   code-near : Near 3 (codeByte n k over 1) (codeValue n k)
   code-near = go (leb n 8) refl
     where
-      go : (b : Bool) → leb n 8 ≡ b → Near 3 (pick b (expanded n k) (rounded (255 * k) (2 ^ n - 1)) over 1) (codeValue n k)
+      go : (b : Bool) → leb n 8 ≡ b → Near 3 (pick b (expanded n k) (nearestByte (codeValue n k)) over 1) (codeValue n k)
       go true e = expanded-near n k h (leb-true n 8 e) l
-      go false e = weaker {p = 2} (omega arith) (rounded-near (255 * k) (2 ^ n - 1) (ones-pos n h))
-
-float-byte : (k : ℕ) → floatByte k < 256
-float-byte k =
-    let x = ofBits binary32 k in
-    omega (arith, rounded-le (255 * clamped x .top) (clamped x .bottom) 255 (bottom-pos x) (mul-le-mul-left 255 (top-le x)))
-
-float-near : (k : ℕ) → Near 3 (floatByte k over 1) (floatValue (ofBits binary32 k))
-float-near k =
-    let x = ofBits binary32 k in
-    weaker {p = 2} (omega arith) (rounded-near (255 * clamped x .top) (clamped x .bottom) (bottom-pos x))
+      go false e = nearest-near k (2 ^ n - 1) (ones-pos n h)
 
 same-near : (m : ℕ) → Near 3 (m over 1) (m over 1)
 same-near m = whole-near 3 m m 1 (omega arith) (omega arith) (omega arith)
@@ -119,30 +132,43 @@ same-near m = whole-near 3 m m 1 (omega arith) (omega arith) (omega arith)
 lane-byte : (m : ℕ) (l : Lane) (w : ℕ) → m < 256 → Wide l → laneByte m l w < 256
 lane-byte m nowhere w k h = k
 lane-byte m (at low n unsigned) w k h = code-byte n (codeAt low n w) h (code-lt low n w)
-lane-byte m (at low n float32) w k h = float-byte (codeAt low n w)
-lane-byte m (at low n signed) w k h = k
+lane-byte m (at low n signed) w k h =
+    nearest-byte (notNegative n (codeAt low n w)) (2 ^ (n - 1) - 1) (ones-pos (n - 1) (omega arith)) (signed-le n (codeAt low n w))
+lane-byte m (at low n float32) w k h =
+    let x = clamped (ofBits binary32 (codeAt low n w)) in
+    nearest-byte (x .top) (x .bottom) (bottom-pos (ofBits binary32 (codeAt low n w))) (top-le (ofBits binary32 (codeAt low n w)))
 lane-byte m (at low n float16) w k h = k
 lane-byte m (at low n ignored) w k h = k
 
 lane-near : (m : ℕ) (l : Lane) (w : ℕ) → Wide l → Near 3 (laneByte m l w over 1) (laneValue m l w)
 lane-near m nowhere w h = same-near m
 lane-near m (at low n unsigned) w h = code-near n (codeAt low n w) h (code-lt low n w)
-lane-near m (at low n float32) w h = float-near (codeAt low n w)
-lane-near m (at low n signed) w h = same-near m
+lane-near m (at low n signed) w h = nearest-near (notNegative n (codeAt low n w)) (2 ^ (n - 1) - 1) (ones-pos (n - 1) (omega arith))
+lane-near m (at low n float32) w h =
+    let x = clamped (ofBits binary32 (codeAt low n w)) in
+    nearest-near (x .top) (x .bottom) (bottom-pos (ofBits binary32 (codeAt low n w)))
 lane-near m (at low n float16) w h = same-near m
 lane-near m (at low n ignored) w h = same-near m
+
+missing-byte : (f : ℕ) → missingColour f < 256
+unfolding missingColour
+missing-byte f = go (eqb f A8)
+  where
+    go : (b : Bool) → pick b 0 255 < 256
+    go true = omega arith
+    go false = omega arith
 
 -- a texel that the lane table decodes
 pub decoded-stands : (f w : ℕ) → Stands (decodedOf f w) (exactOf f w)
 unfolding decodedOf exactOf
 decoded-stands f w = record {
-  r-byte = lane-byte 0 (colourOf f red) w (omega arith) (colour-wide f red);
-  g-byte = lane-byte 0 (colourOf f green) w (omega arith) (colour-wide f green);
-  b-byte = lane-byte 0 (colourOf f blue) w (omega arith) (colour-wide f blue);
+  r-byte = lane-byte (missingColour f) (colourOf f red) w (missing-byte f) (colour-wide f red);
+  g-byte = lane-byte (missingColour f) (colourOf f green) w (missing-byte f) (colour-wide f green);
+  b-byte = lane-byte (missingColour f) (colourOf f blue) w (missing-byte f) (colour-wide f blue);
   a-byte = lane-byte 255 (laneOf f alpha) w (omega arith) (lane-wide f alpha);
-  r-near = lane-near 0 (colourOf f red) w (colour-wide f red);
-  g-near = lane-near 0 (colourOf f green) w (colour-wide f green);
-  b-near = lane-near 0 (colourOf f blue) w (colour-wide f blue);
+  r-near = lane-near (missingColour f) (colourOf f red) w (colour-wide f red);
+  g-near = lane-near (missingColour f) (colourOf f green) w (colour-wide f green);
+  b-near = lane-near (missingColour f) (colourOf f blue) w (colour-wide f blue);
   a-near = lane-near 255 (laneOf f alpha) w (lane-wide f alpha);
 }
 
@@ -200,7 +226,7 @@ module _ {t : Texel} {x : Values} (o : Stands t x) where
       where
         go : (l : Lane) → Wide l → Narrow l → Held (codeOf t) c l (bits (partsOf d)) (encodedOf d t) → Holds c l (encodedOf d t) (valueOf x c)
         go nowhere a b k = tt
-        go (at low n kind) a b k = subst (λ v. Near (quarters c n) (codeValue n v) (valueOf x c)) (sym (k .0)) (near-code c p n a b)
+        go (at low n kind) a b k = subst (λ v. Near (quarters c n) (codeValue n v) (valueOf x c)) (sym (k .0)) (near-code c p n (le-trans (some-bit kind) a) b)
 
     pub near-bytes : Holds c (laneOf d c) (number (encodedBytes d t)) (valueOf x c)
     near-bytes = subst (λ v. Holds c (laneOf d c) v (valueOf x c)) (sym (encoded-number t (channel-byte o) d rgb)) near-word

@@ -14,7 +14,7 @@ use Rattle.formats.specs.Listed.{listed-at}
 use Rattle.channels.specs.Expansion.{expanded, truncated, expands}
 use Rattle.channels.specs.Luminance.{luminanceOf}
 use Rattle.texels.specs.declared.Texel.{Texel}
-use Rattle.texels.specs.Texels.{codeByte, laneByte, orElse, colourOf, decodedOf, byteOf, codeOf, encodedOf, isColour}
+use Rattle.texels.specs.Texels.{codeByte, laneByte, orElse, colourOf, missingColour, decodedOf, byteOf, codeOf, encodedOf, isColour}
 use Rattle.texels.specs.Bounds.{Wide, Narrow, lane-wide, lane-narrow, code-lt, decoded-stands, channel-byte, encoded-holds}
 
 -- two words hold the same code in a lane
@@ -74,9 +74,9 @@ module _ (f w : ℕ) where
   -- the byte that stands for a lane that is there
   pub byte-of : (c : Channel) → isColour c ≡ true → isConvertibleRgb f ≡ true → (low n : ℕ) → laneOf f c ≡ at low n unsigned → n ≤ 8 → byteOf t c ≡ expanded n (codeAt low n w)
   unfolding decodedOf colourOf alone
-  byte-of red p h low n e u = ap (λ l. laneByte 0 (orElse l (laneOf f luminance)) w) e ∙ narrow-byte n (codeAt low n w) u
-  byte-of green p h low n e u = ap (λ l. laneByte 0 (orElse l (laneOf f luminance)) w) e ∙ narrow-byte n (codeAt low n w) u
-  byte-of blue p h low n e u = ap (λ l. laneByte 0 (orElse l (laneOf f luminance)) w) e ∙ narrow-byte n (codeAt low n w) u
+  byte-of red p h low n e u = ap (λ l. laneByte (missingColour f) (orElse l (laneOf f luminance)) w) e ∙ narrow-byte n (codeAt low n w) u
+  byte-of green p h low n e u = ap (λ l. laneByte (missingColour f) (orElse l (laneOf f luminance)) w) e ∙ narrow-byte n (codeAt low n w) u
+  byte-of blue p h low n e u = ap (λ l. laneByte (missingColour f) (orElse l (laneOf f luminance)) w) e ∙ narrow-byte n (codeAt low n w) u
   byte-of alpha p h low n e u = ap (λ l. laneByte 255 l w) e ∙ narrow-byte n (codeAt low n w) u
   byte-of luminance p h low n e u =
       let a = rgb-alone f h in
@@ -88,8 +88,8 @@ module _ (f w : ℕ) where
       missing : (c : Channel) → T (alone f c) → laneOf f c ≡ nowhere
       missing c s = absent-is (laneOf f c) (subst (λ l. T (absent l || absent (laneOf f c))) e s)
 
-      colour : (c : Channel) → T (alone f c) → laneByte 0 (orElse (laneOf f c) (laneOf f luminance)) w ≡ expanded n (codeAt low n w)
-      colour c s = ap (λ l. laneByte 0 (orElse l (laneOf f luminance)) w) (missing c s) ∙ ap (λ l. laneByte 0 l w) e ∙ narrow-byte n (codeAt low n w) u
+      colour : (c : Channel) → T (alone f c) → laneByte (missingColour f) (orElse (laneOf f c) (laneOf f luminance)) w ≡ expanded n (codeAt low n w)
+      colour c s = ap (λ l. laneByte (missingColour f) (orElse l (laneOf f luminance)) w) (missing c s) ∙ ap (λ l. laneByte (missingColour f) l w) e ∙ narrow-byte n (codeAt low n w) u
   byte-of depth p h low n e u = absurd (false≢true p)
   byte-of stencil p h low n e u = absurd (false≢true p)
   byte-of padding p h low n e u = absurd (false≢true p)

@@ -4,34 +4,35 @@ use mathlib.Core.Path.{_≡_, refl}
 use mathlib.Core.Bool.{Bool, true, false}
 use mathlib.Core.List.{List}
 use Prim.Native.Nat.{ℕ, _+_, _*_, _-_, _^_, _<_}
-use lib.Dec.{leb}
+use lib.Dec.{leb, eqb}
 use lib.Ieee.{binary32, ofBits}
 use Rattle.words.specs.Little.{bytes}
 use Rattle.words.specs.Tests.{pick}
+use Rattle.formats.specs.Codes.{A8}
 use Rattle.formats.specs.Lanes.{Channel, red, green, blue, alpha, luminance, depth, stencil, padding, unsigned, signed, float16, float32, ignored, Part, Lane, nowhere, at, codeAt, packed}
 use Rattle.formats.specs.Table.{partsOf, laneOf, bytesOf}
 use Rattle.channels.specs.Fractions.{Fraction, _over_, mean, Near}
 use Rattle.channels.specs.Expansion.{expanded, truncated}
 use Rattle.channels.specs.Nearest.{rounded}
 use Rattle.channels.specs.Luminance.{luminanceOf}
-use Rattle.channels.specs.Exact.{codeValue, floatValue}
+use Rattle.channels.specs.Exact.{codeValue, signedValue, floatValue}
 use Rattle.texels.specs.declared.Texel.{Texel}
 
 -- ---- decoding
+-- the byte nearest to an exact value, a half up
+abbrev pub nearestByte : Fraction → ℕ
+nearestByte x = rounded (x .top) (x .bottom)
+
 -- the byte of an unsigned code of n bits: up to eight bits are repeated, more go to the nearest byte
 abbrev pub codeByte : (n k : ℕ) → ℕ
-codeByte n k = pick (leb n 8) (expanded n k) (rounded (255 * k) (2 ^ n - 1))
-
--- the byte of a binary32 channel: the nearest to 255 times the clamped number, a half up
-abbrev pub floatByte : (bits : ℕ) → ℕ
-floatByte k = rounded (floatValue (ofBits binary32 k) .top) (floatValue (ofBits binary32 k) .bottom)
+codeByte n k = pick (leb n 8) (expanded n k) (nearestByte (codeValue n k))
 
 -- the byte of a lane; `missing` where there is none, or none of a kind that is converted
 abbrev pub laneByte : (missing : ℕ) → Lane → (word : ℕ) → ℕ
 laneByte missing nowhere w = missing
 laneByte missing (at low n unsigned) w = codeByte n (codeAt low n w)
-laneByte missing (at low n float32) w = floatByte (codeAt low n w)
-laneByte missing (at low n signed) w = missing
+laneByte missing (at low n signed) w = nearestByte (signedValue n (codeAt low n w))
+laneByte missing (at low n float32) w = nearestByte (floatValue (ofBits binary32 (codeAt low n w)))
 laneByte missing (at low n float16) w = missing
 laneByte missing (at low n ignored) w = missing
 
@@ -43,12 +44,16 @@ orElse (at low n k) m = at low n k
 unfoldable pub colourOf : ℕ → Channel → Lane
 colourOf f c = orElse (laneOf f c) (laneOf f luminance)
 
--- the texel of a word: a missing colour is 0, a missing alpha 255
+-- the byte of a colour that a format lacks: A8 is black, and in any other format it is full
+unfoldable pub missingColour : ℕ → ℕ
+missingColour f = pick (eqb f A8) 0 255
+
+-- the texel of a word; a missing alpha is 255
 unfoldable pub decodedOf : (format word : ℕ) → Texel
 decodedOf f w = record {
-  r = laneByte 0 (colourOf f red) w;
-  g = laneByte 0 (colourOf f green) w;
-  b = laneByte 0 (colourOf f blue) w;
+  r = laneByte (missingColour f) (colourOf f red) w;
+  g = laneByte (missingColour f) (colourOf f green) w;
+  b = laneByte (missingColour f) (colourOf f blue) w;
   a = laneByte 255 (laneOf f alpha) w;
 }
 
@@ -81,8 +86,8 @@ encodedBytes f t = bytes (bytesOf f) (encodedOf f t)
 abbrev pub laneValue : (missing : ℕ) → Lane → (word : ℕ) → Fraction
 laneValue missing nowhere w = missing over 1
 laneValue missing (at low n unsigned) w = codeValue n (codeAt low n w)
+laneValue missing (at low n signed) w = signedValue n (codeAt low n w)
 laneValue missing (at low n float32) w = floatValue (ofBits binary32 (codeAt low n w))
-laneValue missing (at low n signed) w = missing over 1
 laneValue missing (at low n float16) w = missing over 1
 laneValue missing (at low n ignored) w = missing over 1
 
@@ -107,9 +112,9 @@ valueOf x padding = 0 over 1
 -- the exact values of a word; a luminance code is red, green and blue alike
 unfoldable pub exactOf : (format word : ℕ) → Values
 exactOf f w = record {
-  r = laneValue 0 (colourOf f red) w;
-  g = laneValue 0 (colourOf f green) w;
-  b = laneValue 0 (colourOf f blue) w;
+  r = laneValue (missingColour f) (colourOf f red) w;
+  g = laneValue (missingColour f) (colourOf f green) w;
+  b = laneValue (missingColour f) (colourOf f blue) w;
   a = laneValue 255 (laneOf f alpha) w;
 }
 

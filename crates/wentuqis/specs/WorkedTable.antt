@@ -128,7 +128,7 @@ workedTable =
 pub worked-table : map (λ (r : Row). r .computed) workedTable ≡ map (λ (r : Row). r .printed) workedTable
 unfolding integers.clampTo
     loops.iterate loops.all
-    classes.isConvertibleRgb classes.isPackedYuv classes.isPlanarYuv classes.isWideRgba classes.isLaneSource classes.linearRowPitch
+    classes.isConvertibleRgb classes.isPackedYuv classes.isPlanarYuv classes.isArgbSource classes.isLaneSource classes.linearRowPitch
     lanes.partsOf lanes.laneOf lanes.bytesOf
     widths.expanded widths.truncated
     bytewise.rounded

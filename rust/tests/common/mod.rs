@@ -23,8 +23,18 @@ pub const RGB: [(u32, usize); 12] = [
     (D3DFMT_A8L8, 2),
 ];
 
-/// The wide formats, which convert into A8R8G8B8 only, with their bytes a texel.
-pub const WIDE: [(u32, usize); 2] = [(D3DFMT_A16B16G16R16, 8), (D3DFMT_A32B32G32R32F, 16)];
+/// The formats that convert into A8R8G8B8 only, with their bytes a texel: the wide ones, normal maps
+/// and ten-bit stills.
+pub const TO_A8R8G8B8: [(u32, usize); 8] = [
+    (D3DFMT_A16B16G16R16, 8),
+    (D3DFMT_A32B32G32R32F, 16),
+    (D3DFMT_A2R10G10B10, 4),
+    (D3DFMT_A2B10G10R10, 4),
+    (D3DFMT_G16R16, 4),
+    (D3DFMT_L16, 2),
+    (D3DFMT_V8U8, 2),
+    (D3DFMT_Q8W8V8U8, 4),
+];
 
 /// `len` bytes that differ from their neighbours, so that a moved or written byte is seen.
 pub fn bytes(len: usize) -> Vec<u8> {

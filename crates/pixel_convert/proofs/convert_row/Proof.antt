@@ -7,7 +7,7 @@ use denote.Ref.{now}
 use borrow.Author.Tests.{eqb-true}
 use Rattle.words.specs.Tests.{and-left}
 use Rattle.formats.specs.Codes.{A8R8G8B8, A16B16G16R16}
-use Rattle.formats.specs.Classes.{isWideRgba}
+use Rattle.formats.specs.Classes.{isArgbSource}
 use Rattle.pixel_convert.specs.Regions.{rowWritten}
 use Rattle.pixel_convert.specs.Rows.{RowFits}
 use borrow.Author.Needs.{needs}
@@ -23,10 +23,10 @@ source c = c .if2 .taken
 destination : (c : tie.Then2) → start c .args .dst-format ≡ A8R8G8B8
 destination c =
     let g = start c .args in
-    eqb-true (g .dst-format) A8R8G8B8 (and-left (eqb (g .dst-format) A8R8G8B8) (isWideRgba (g .src-format)) (sym (c .before .before .is-wide-pair .ensures) ∙ c .before .if1 .taken))
+    eqb-true (g .dst-format) A8R8G8B8 (and-left (eqb (g .dst-format) A8R8G8B8) (isArgbSource (g .src-format)) (sym (c .before .before .is-argb-pair .ensures) ∙ c .before .if1 .taken))
 
-is-wide-pair-requires : tie.Need-is-wide-pair-requires
-is-wide-pair-requires c κs = search needs
+is-argb-pair-requires : tie.Need-is-argb-pair-requires
+is-argb-pair-requires c κs = search needs
 
 wide-row-requires : tie.Need-wide-row-requires
 wide-row-requires c κs =
@@ -60,7 +60,7 @@ pub convert-row-spec : {M : Type 1} → statement M
 convert-row-spec =
     tie.close
     (tie.spec
-    is-wide-pair-requires
+    is-argb-pair-requires
     wide-row-requires
     same-length
     returns

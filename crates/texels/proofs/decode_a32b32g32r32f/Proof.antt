@@ -6,8 +6,10 @@ use mathlib.Core.List.{List}
 use lib.ListN.{take}
 use Rattle.words.specs.Little.{Small, number, small-list}
 use Rattle.words.specs.Slices.{part-read}
+use lib.Ieee.{binary32, ofBits}
+use Rattle.channels.specs.Exact.{floatValue}
 use Rattle.formats.specs.Table.{laneOf, partsOf}
-use Rattle.texels.specs.Texels.{decodedOf, colourOf, floatByte}
+use Rattle.texels.specs.Texels.{decodedOf, colourOf, nearestByte}
 use Rattle.texels.specs.Words.{byte-lane}
 use borrow.Author.Needs.{needs}
 use Rattle.texels.proofs.decode_a32b32g32r32f.Statement.{statement}
@@ -72,15 +74,16 @@ returns c =
     let small : Small l = small-list l (λ i h. omega (arith, s .shared-slice-known .given i)) in
     let h = s .before .pre in
     let word : List ℕ → ℕ = λ m. number (take 4 m) in
+    let float : ℕ → ℕ = λ k. nearestByte (floatValue (ofBits binary32 k)) in
     cc (
       c .before .before .before .before .before .before .before .before .before .f32-to-unorm8 .ensures .0
-          ∙ ap floatByte (c .before .before .before .before .before .before .before .before .before .before .le32 .ensures ∙ sym (byte-lane 0 4 12 l small (omega arith))),
+          ∙ ap float (c .before .before .before .before .before .before .before .before .before .before .le32 .ensures ∙ sym (byte-lane 0 4 12 l small (omega arith))),
       c .before .before .before .before .before .before .f32-to-unorm82 .ensures .0
-          ∙ ap floatByte (c .before .before .before .before .before .before .before .le322 .ensures ∙ ap word (part-read l 4) ∙ sym (byte-lane 4 4 8 l small (omega arith))),
+          ∙ ap float (c .before .before .before .before .before .before .before .le322 .ensures ∙ ap word (part-read l 4) ∙ sym (byte-lane 4 4 8 l small (omega arith))),
       c .before .before .before .f32-to-unorm83 .ensures .0
-          ∙ ap floatByte (c .before .before .before .before .le323 .ensures ∙ ap word (part-read l 8) ∙ sym (byte-lane 8 4 4 l small (omega arith))),
+          ∙ ap float (c .before .before .before .before .le323 .ensures ∙ ap word (part-read l 8) ∙ sym (byte-lane 8 4 4 l small (omega arith))),
       c .f32-to-unorm84 .ensures .0
-          ∙ ap floatByte (c .before .le324 .ensures ∙ ap word (part-read l 12) ∙ sym (byte-lane 12 4 0 l small (omega arith))),
+          ∙ ap float (c .before .le324 .ensures ∙ ap word (part-read l 12) ∙ sym (byte-lane 12 4 0 l small (omega arith))),
     )
 
 pub decode-a32b32g32r32f-spec : {M : Type 1} → statement M

@@ -1,7 +1,10 @@
 -- `texels::decode_r8g8b8` meets its contract: each shift and mask is the lane of the table, and a padding byte above is not read. Assumes nothing.
-use native.Mathlib.Nat.{div-one}
+use mathlib.Core.Path.{refl, _∙_}
+use Prim.Native.Nat.{_%_}
 use Rattle.formats.specs.Table.{laneOf, partsOf}
+use Rattle.channels.specs.Expansion.{expanded}
 use Rattle.texels.specs.Texels.{decodedOf, colourOf}
+use Rattle.texels.proofs.Arms.{unshifted, four-bytes}
 use borrow.Author.Needs.{needs}
 use Rattle.texels.proofs.decode_r8g8b8.Statement.{statement}
 use Rattle.texels.proofs.decode_r8g8b8.Tie as tie
@@ -17,7 +20,9 @@ expand8-requires-3 c κs = search needs
 
 returns : tie.Need-returns
 unfolding decodedOf colourOf laneOf partsOf
-returns c = (cc (div-one (c .before .before .before .args .v)), cc (div-one (c .before .before .before .args .v)))
+returns c =
+    let t = four-bytes (c .before .before .expand8 .ensures) (c .before .expand82 .ensures) (c .expand83 .ensures ∙ unshifted (λ k. expanded 8 (k % 256)) (c .before .before .before .args .v)) refl in
+    (t, t)
 
 pub decode-r8g8b8-spec : {M : Type 1} → statement M
 decode-r8g8b8-spec =
