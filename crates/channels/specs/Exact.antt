@@ -6,14 +6,14 @@ use Prim.Native.Nat.{ℕ, _*_, _-_, _^_, _≤_, _<_}
 use native.Mathlib.Omega.{arith}
 use native.Mathlib.Nat.{le-of-lt, mul-assoc}
 use lib.Pow.{pow-mono}
-use lib.Dec.{lit<, ltb}
+use lib.Dec.{ltb}
 use lib.Ieee.{Float}
 use borrow.Author.Tests.{lt-ltb, le-ltb}
 use Rattle.words.specs.Tests.{pick, split}
 use Rattle.channels.specs.Fractions.{Fraction, _over_, Near, whole-near, near-sym}
 use Rattle.channels.specs.Expansion.{expanded, truncated, expands, truncates}
 use Rattle.channels.specs.Nearest.{rounded, rounded-below, rounded-above}
-use Rattle.channels.specs.Floats.{clamped, bottom-pos}
+use Rattle.channels.specs.Floats.{clamped}
 
 -- the exact value of an n-bit code k: 255 k / (2^n - 1)
 abbrev pub codeValue : (n k : ℕ) → Fraction
@@ -64,11 +64,3 @@ truncated-near n v l u h =
 -- a rounded fraction lies within 1/2 of it
 pub rounded-near : (n d : ℕ) → 0 < d → Near 2 (rounded n d over 1) (n over d)
 rounded-near n d D = whole-near 2 (rounded n d) n d D (omega (arith, rounded-below n d)) (omega (arith, rounded-above n d D))
-
--- a 16-bit code goes to the nearest of k / 257
-pub sixteen-near : (k : ℕ) → Near 2 (rounded k 257 over 1) (codeValue 16 k)
-sixteen-near k = whole-near 2 (rounded k 257) (255 * k) 65535 (lit< tt) (omega (arith, rounded-below k 257)) (omega (arith, rounded-above k 257 (lit< tt)))
-
--- a binary32 channel
-pub float-near : (x : Float) → Near 2 (rounded (255 * clamped x .top) (clamped x .bottom) over 1) (floatValue x)
-float-near x = rounded-near (255 * clamped x .top) (clamped x .bottom) (bottom-pos x)

@@ -96,27 +96,18 @@ rounded-above n d D =
     let p : 0 < 2 * d = omega arith in
     omega (arith, twice ((2 * n + d) / (2 * d)) d, lt-div-mul-add {a = 2 * n + d} {b = 2 * d} p)
 
--- it errs by at most half a step
-pub rounded-error : (n d : ℕ) → 0 < d → 2 * apart (rounded n d * d) n ≤ d
-rounded-error n d D = omega (arith, rounded-below n d, rounded-above n d D)
-
 -- THE NEAREST LAW: a half goes up
 pub rounded-up : (n d : ℕ) → 0 < d → NearestUp n d (rounded n d)
 rounded-up n d D =
     within-half (λ j q. j < q) n d (rounded n d) D (rounded-below n d) (le-of-lt (rounded-above n d D))
     (λ j e t. omega arith) (λ j e t. absurd (omega (arith, rounded-above n d D)))
 
--- where d is odd there is no tie, and it errs by less than half a step
+-- where d is odd there is no tie
 pub rounded-odd : (n d : ℕ) → d % 2 ≡ 1 → Nearest n d (rounded n d)
 rounded-odd n d odd =
     let D : 0 < d = omega arith in
     within-half (λ j q. ⊥) n d (rounded n d) D (rounded-below n d) (le-of-lt (rounded-above n d D))
     (λ j e t. omega arith) (λ j e t. omega arith)
-
-pub rounded-odd-error : (n d : ℕ) → d % 2 ≡ 1 → 2 * apart (rounded n d * d) n < d
-rounded-odd-error n d odd =
-    let D : 0 < d = omega arith in
-    omega (arith, rounded-below n d, rounded-above n d D)
 
 -- ---- how it is computed
 -- an odd divisor: its lower half is added

@@ -4,10 +4,9 @@
 // Ported from convert.rs of athei/mtld3d (an altered version, see NOTICE).
 ghost use mathlib.Core.Path.{_≡_};
 ghost use mathlib.Core.List.{[], _∷_};
-ghost use Prim.Native.Nat.{_+_, _*_, _-_, _%_, _≤_, _<_};
-ghost use lib.ListN.{length, take, drop};
-ghost use lib.Seq.{sets};
-ghost use lib.Ieee.{binary32, ofBits, toBits};
+ghost use Prim.Native.Nat.{_+_, _*_, _-_, _%_, _<_};
+ghost use lib.ListN.{length};
+ghost use lib.Ieee.{binary32, toBits};
 ghost use Rattle.formats.specs.Lanes.{red, green, blue, alpha, unsigned, signed, float16, float32};
 ghost use Rattle.channels.specs.Expansion.{truncated};
 ghost use Rattle.binary16.specs.Half.{halfOf};

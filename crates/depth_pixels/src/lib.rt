@@ -16,15 +16,14 @@ ghost use mathlib.Core.List.{[]};
 ghost use Prim.Native.Nat.{_+_, _*_, _-_, _≤_, _<_, max};
 ghost use lib.ListN.{length};
 ghost use lib.Seq.{sets};
-ghost use lib.Dec.{T, leb, eqb};
+ghost use lib.Dec.{T};
 ghost use lib.Ieee.{binary32, ofBits, toBits, isNan};
 ghost use Rattle.words.specs.Little.{bytes};
 ghost use Rattle.formats.specs.Codes as codes;
 ghost use Rattle.formats.specs.Table.{bytesOf};
-ghost use Rattle.words.specs.Multiples.{raised};
 ghost use Rattle.channels.specs.Floats.{clamped};
 ghost use Rattle.depth_pixels.specs.Depth.{codeFor};
-ghost use Rattle.depth_pixels.specs.Pixels.{formatCode, StandsFor, hasStencil, decoded, encoded, KeepsAll};
+ghost use Rattle.depth_pixels.specs.Pixels.{formatCode, StandsFor, hasStencil, decoded, encoded};
 ghost use Rattle.depth_pixels.specs.Pictures.{writtenRow, RowIn};
 ghost use Rattle.depth_pixels.specs.PixelBytes.{depthAt, wordAt, depthBytes, stencilBytes, packedBytes, depthRow, stencilRow, packedRow};
 

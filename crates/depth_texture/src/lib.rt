@@ -5,23 +5,17 @@
 // Ported from depth_texture.rs of athei/mtld3d (an altered version, see NOTICE).
 ghost use mathlib.Core.Path.{_≡_};
 ghost use mathlib.Core.Bool.{true, not};
-ghost use mathlib.Core.List.{[]};
-ghost use Prim.Native.Nat.{_+_, _*_, _-_, _≤_, _<_, max};
+ghost use Prim.Native.Nat.{_+_, _*_, _-_, _<_, max};
 ghost use lib.ListN.{length};
-ghost use lib.Seq.{sets};
-ghost use lib.Dec.{T, leb, eqb};
-ghost use lib.Ieee.{binary32, ofBits, toBits, isNan};
+ghost use lib.Dec.{leb, eqb};
+ghost use lib.Ieee.{binary32};
 ghost use Rattle.words.specs.Little.{bytes};
 ghost use Rattle.formats.specs.Codes as codes;
 ghost use Rattle.formats.specs.Table.{bytesOf};
 ghost use Rattle.words.specs.Multiples.{raised};
-ghost use Rattle.channels.specs.Floats.{clamped};
-ghost use Rattle.depth_pixels.specs.Depth.{codeFor};
-ghost use Rattle.depth_pixels.specs.Pixels.{formatCode, StandsFor, hasStencil, decoded, encoded, KeepsAll};
+ghost use Rattle.depth_pixels.specs.Pixels.{formatCode, KeepsAll};
 ghost use Rattle.depth_texture.specs.Layouts.{limit, isPowerOfTwo, answerNumber, answerLayout, layoutRefusal, layoutFor, Stands, stands, Pitches};
 ghost use Rattle.depth_texture.specs.Replies.{replyNumber, refusalOf, Accepts, Checked, packedHolds, stencilHolds};
-ghost use Rattle.depth_pixels.specs.Pictures.{writtenRow, RowIn};
-ghost use Rattle.depth_pixels.specs.PixelBytes.{depthAt, wordAt, depthBytes, stencilBytes, packedBytes, depthRow, stencilRow, packedRow};
 ghost use Rattle.depth_texture.specs.Planes.{depthPlane, stencilPlane, packedPixels, ifAccepted, unpackedDepth, unpackedStencil, packedBuffer};
 ghost use Rattle.depth_texture.specs.Promises.{firstRefusal, SamePixels, Restores, SameElsewhere, PlanesKept, NearestCodes};
 use depth_pixels::PackedDepth;

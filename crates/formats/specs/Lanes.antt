@@ -1,6 +1,5 @@
 -- Lanes: a texel is the little-endian number of its bytes, its word, and each channel is a run of the word's bits.
 -- Assumes nothing.
-use mathlib.Core.Path.{_≡_}
 use mathlib.Core.List.{List, [], _∷_}
 use Prim.Native.Nat.{ℕ, _+_, _*_, _/_, _%_, _^_}
 

@@ -31,7 +31,7 @@ use Rattle.places.specs.Places.{texelStart, placesAt, bytesAt, insideAll}
 unfoldable pub canConvertUpdate : (source destination : ℕ) → Bool
 canConvertUpdate s d = (isConvertibleRgb s || isPackedYuv s) && isConvertibleRgb d
 
--- these, a wide source into A8R8G8B8, and a planar source into RGB
+-- these, a source of A8R8G8B8 alone into that, and a planar source into RGB
 unfoldable pub canConvert : (source destination : ℕ) → Bool
 canConvert s d = canConvertUpdate s d || (eqb d A8R8G8B8 && isArgbSource s) || (isPlanarYuv s && isConvertibleRgb d)
 

@@ -27,18 +27,20 @@ pub encode-arm : (f k n v : ℕ) (l out : List ℕ) (t : Texel) → f ≡ k → 
 unfolding encodedBytes
 encode-arm f k n v l out t e b w o = o ∙ ap₂ (λ m u. sets l 0 (bytes m u)) (sym b) w ∙ ap (λ g. sets l 0 (bytes (bytesOf g) (encodedOf g t))) (sym e)
 
--- no arm has matched; the last arm's code comes first
-abbrev pub Missed : (codes : List ℕ) → ℕ → Type 0
-Missed [] f = Unit {0}
-Missed (k ∷ ks) f = Missed ks f × (f ≡ k → ⊥)
+-- no arm has matched, after what was known before the first one
+abbrev pub Missed : (before : Type 0) (codes : List ℕ) → ℕ → Type 0
+Missed N [] f = N
+Missed N (k ∷ ks) f = Missed (N × (f ≡ k → ⊥)) ks f
 
-no-code : (ks : List ℕ) (f : ℕ) → Missed ks f → NoCode f ks
-no-code [] f m = tt
-no-code (k ∷ ks) f m = (m .1, no-code ks f (m .0))
+no-code : (N : Type 0) (ks : List ℕ) (f : ℕ) → Missed N ks f → N × NoCode f ks
+no-code N [] f m = (m, tt)
+no-code N (k ∷ ks) f m =
+    let r = no-code (N × (f ≡ k → ⊥)) ks f m in
+    (r .0 .0, (r .0 .1, r .1))
 
 -- then a list of some of the arms' codes has not got this one
-pub no-arm : (ks gs : List ℕ) (f : ℕ) → Missed ks f → T (everyCode (λ g. listed g ks) gs) → listed f gs ≡ false
-no-arm ks gs f m t = not-among gs ks f (not-listed f ks (no-code ks f m)) t
+pub no-arm : (ks gs : List ℕ) (f : ℕ) → Missed (Unit {0}) ks f → T (everyCode (λ g. listed g ks) gs) → listed f gs ≡ false
+no-arm ks gs f m t = not-among gs ks f (not-listed f ks (no-code (Unit {0}) ks f m .1)) t
 
 -- the lowest lane is read with no shift
 pub unshifted : (read : ℕ → ℕ) (v : ℕ) → read v ≡ read (v / 1)

@@ -1,5 +1,5 @@
 -- `channels::expand4` meets its contract: the general law of shifts and masks at width 4, where the second copy is not shifted. Assumes nothing.
-use mathlib.Core.Path.{_≡_, ap, sym, _∙_}
+use mathlib.Core.Path.{ap, sym, _∙_}
 use Prim.Native.Nat.{_*_, _%_}
 use native.Mathlib.Omega.{arith}
 use native.Mathlib.Nat.{div-one}

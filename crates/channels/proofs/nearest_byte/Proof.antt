@@ -1,5 +1,5 @@
 -- `channels::nearest_byte` meets its contract: the quotient is `rounded`, with its top and bottom doubled. Assumes nothing.
-use mathlib.Core.Path.{_≡_, refl, ap}
+use mathlib.Core.Path.{_≡_, ap}
 use Prim.Native.Nat.{ℕ, _+_, _*_, _/_}
 use native.Mathlib.Nat.{mul-le-mul-left}
 use native.Mathlib.Omega.{arith}

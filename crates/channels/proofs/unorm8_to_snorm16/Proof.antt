@@ -1,5 +1,4 @@
 -- `channels::unorm8_to_snorm16` meets its contract: the nearest code of the maximum 32767. Assumes nothing.
-use mathlib.Core.Path.{_≡_}
 use Prim.Native.Nat.{_*_}
 use native.Mathlib.Omega.{arith}
 use borrow.Author.Needs.{needs}

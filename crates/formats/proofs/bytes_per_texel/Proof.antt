@@ -1,5 +1,5 @@
 -- `formats::bytes_per_texel` meets its contract: the table's rule is a test at each of its entries, and above it no code has lanes. Assumes nothing.
-use mathlib.Core.Path.{_≡_, sym, ap}
+use mathlib.Core.Path.{sym, ap}
 use mathlib.Core.Bool.{Bool}
 use mathlib.Core.List.{List, [], _∷_}
 use Prim.Native.Nat.{ℕ, _/_}

@@ -1,5 +1,5 @@
 -- `pixel_convert::can_convert` meets its contract: each test is one of the definition's. Assumes nothing.
-use mathlib.Core.Path.{_≡_, refl, sym, _∙_}
+use mathlib.Core.Path.{refl, sym, _∙_}
 use Rattle.pixel_convert.specs.Regions.{canConvert}
 use borrow.Author.Needs.{needs}
 use Rattle.pixel_convert.proofs.can_convert.Statement.{statement}

@@ -1,5 +1,5 @@
 -- `pixel_convert::fetch_a16b16g16r16` meets its contract: the decoder is lent the part that starts at the texel. Assumes nothing.
-use mathlib.Core.Path.{_≡_, refl, sym, ap, _∙_}
+use mathlib.Core.Path.{refl, sym, ap, _∙_}
 use mathlib.Core.List.{List}
 use Prim.Native.Nat.{ℕ, _+_, _*_, _≤_}
 use native.Mathlib.Omega.{arith}

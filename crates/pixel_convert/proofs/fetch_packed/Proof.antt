@@ -1,5 +1,5 @@
 -- `pixel_convert::fetch_packed` meets its contract: a macropixel's first four bytes are all that a texel needs. Assumes nothing.
-use mathlib.Core.Path.{_≡_, ap, _∙_}
+use mathlib.Core.Path.{ap, _∙_}
 use Prim.Native.Nat.{_%_}
 use lib.Dec.{eqb}
 use denote.Ref.{now}

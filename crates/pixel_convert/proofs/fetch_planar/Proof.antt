@@ -1,5 +1,5 @@
 -- `pixel_convert::fetch_planar` meets its contract: the three bytes of a texel that is inside are read. Assumes nothing.
-use mathlib.Core.Path.{_≡_, ap, _∙_}
+use mathlib.Core.Path.{ap, _∙_}
 use Prim.Native.Nat.{_%_}
 use lib.Dec.{eqb}
 use denote.Ref.{now}

@@ -1,5 +1,5 @@
 -- `pixel_convert::is_argb_pair` meets its contract: each test is one of the definition's. Assumes nothing.
-use mathlib.Core.Path.{_≡_, refl, _∙_}
+use mathlib.Core.Path.{refl, _∙_}
 use borrow.Author.Tests.{eq-eqb, ne-eqb}
 use Rattle.formats.specs.Codes.{A8R8G8B8}
 use borrow.Author.Needs.{needs}

@@ -1,5 +1,5 @@
 -- `pixel_convert::is_empty` meets its contract: each test is one of the definition's. Assumes nothing.
-use mathlib.Core.Path.{_≡_, refl}
+use mathlib.Core.Path.{refl}
 use borrow.Author.Tests.{eq-eqb, ne-eqb}
 use Rattle.pixel_convert.specs.Regions.{isEmpty}
 use Rattle.pixel_convert.proofs.is_empty.Statement.{statement}

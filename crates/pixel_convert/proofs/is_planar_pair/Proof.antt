@@ -1,5 +1,5 @@
 -- `pixel_convert::is_planar_pair` meets its contract: each test is one of the definition's. Assumes nothing.
-use mathlib.Core.Path.{_≡_, refl, sym, _∙_}
+use mathlib.Core.Path.{refl, sym, _∙_}
 use borrow.Author.Needs.{needs}
 use Rattle.pixel_convert.proofs.is_planar_pair.Statement.{statement}
 use Rattle.pixel_convert.proofs.is_planar_pair.Tie as tie

@@ -1,5 +1,5 @@
 -- `pixel_convert::store_a8r8g8b8` meets its contract: the part that starts at the texel comes back with its bytes set. Assumes nothing.
-use mathlib.Core.Path.{_≡_, refl, ap, _∙_}
+use mathlib.Core.Path.{refl, ap, _∙_}
 use mathlib.Core.List.{List, _++_}
 use Prim.Native.Nat.{ℕ, _+_, _*_, _-_}
 use native.Mathlib.Omega.{arith}

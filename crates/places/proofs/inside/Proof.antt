@@ -1,5 +1,5 @@
 -- `places::inside` meets its contract: the last texel decides. Assumes nothing.
-use mathlib.Core.Path.{_≡_, sym, _∙_}
+use mathlib.Core.Path.{sym, _∙_}
 use Prim.Native.Nat.{_+_, _-_}
 use native.Mathlib.Omega.{arith}
 use Rattle.places.specs.Inside.{inside-last, texel-out-x, texel-out-y, texel-in}

@@ -1,5 +1,5 @@
 -- `places::planar_has` meets its contract: no pitch and no layout have no place, and else the layout decides. Assumes nothing.
-use mathlib.Core.Path.{_≡_, sym, ap, _∙_}
+use mathlib.Core.Path.{sym, ap, _∙_}
 use Rattle.planar_yuv.specs.Answers.{replyOf}
 use Rattle.places.specs.Places.{placesIn}
 use Rattle.places.specs.Planar.{no-pitch, no-layout, in-layout, layout-legal, absent-out}

@@ -1,5 +1,5 @@
 -- `places::source_layout` meets its contract: with no pitch and no layout a texel lies nowhere. Assumes nothing.
-use mathlib.Core.Path.{_≡_, sym, ap, _∙_}
+use mathlib.Core.Path.{sym, ap, _∙_}
 use mathlib.Core.Logic.{inl, inr}
 use native.Mathlib.Omega.{arith}
 use Rattle.planar_yuv.specs.Answers.{replyOf, layoutOf, not-given}

@@ -1,5 +1,5 @@
 -- `texels::decode_a16b16g16r16` meets its contract: each word of two bytes is the lane of the table, and the nearest of 255 k / 65535 is the nearest of k / 257. Assumes nothing.
-use mathlib.Core.Path.{_≡_, sym, ap, _∙_}
+use mathlib.Core.Path.{sym, ap, _∙_}
 use Prim.Native.Nat.{ℕ, _*_}
 use native.Mathlib.Omega.{arith}
 use mathlib.Core.List.{List}

@@ -1,5 +1,5 @@
 -- `texels::decode_a32b32g32r32f` meets its contract: each word of four bytes is the lane of the table. Assumes nothing.
-use mathlib.Core.Path.{_≡_, sym, ap, _∙_}
+use mathlib.Core.Path.{sym, ap, _∙_}
 use Prim.Native.Nat.{ℕ}
 use native.Mathlib.Omega.{arith}
 use mathlib.Core.List.{List}

@@ -1,5 +1,5 @@
 -- `texels::decode_pixel` meets its contract: each arm reads the bytes of its format as one word. Assumes nothing.
-use mathlib.Core.Path.{_≡_, refl, sym, ap, ap₂, _∙_}
+use mathlib.Core.Path.{refl, sym, ap, ap₂, _∙_}
 use mathlib.Core.Bool.{_||_, false≢true}
 use mathlib.Core.List.{List, [], _∷_}
 use Prim.Native.Nat.{ℕ}
@@ -226,11 +226,11 @@ returns-20 : tie.Need-returns-20
 unfolding bytesOf partsOf
 returns-20 c = decode-arm _ 63 4 _ _ _ (c .before .before .match .keys20) refl (c .before .le328 .ensures) (c .decode-q8w8v8u8 .ensures)
 
--- the arms' codes, from the last one up
+-- the arms' codes
 abbrev arms : List ℕ
 arms =
-    Q8W8V8U8 ∷ V8U8 ∷ L16 ∷ G16R16 ∷ A2B10G10R10 ∷ A2R10G10B10 ∷ A32B32G32R32F ∷ A8L8 ∷ L8 ∷ A16B16G16R16 ∷ X8B8G8R8 ∷ A8B8G8R8 ∷ A8
-    ∷ A4R4G4B4 ∷ A1R5G5B5 ∷ X1R5G5B5 ∷ R5G6B5 ∷ X8R8G8B8 ∷ A8R8G8B8 ∷ R8G8B8 ∷ []
+    R8G8B8 ∷ A8R8G8B8 ∷ X8R8G8B8 ∷ R5G6B5 ∷ X1R5G5B5 ∷ A1R5G5B5 ∷ A4R4G4B4 ∷ A8 ∷ A8B8G8R8 ∷ X8B8G8R8 ∷ A16B16G16R16 ∷ L8 ∷ A8L8
+    ∷ A32B32G32R32F ∷ A2R10G10B10 ∷ A2B10G10R10 ∷ G16R16 ∷ L16 ∷ V8U8 ∷ Q8W8V8U8 ∷ []
 
 returns-21 : tie.Need-returns-21
 unfolding isLaneSource isConvertibleRgb isArgbSource

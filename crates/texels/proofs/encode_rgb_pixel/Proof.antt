@@ -1,11 +1,10 @@
 -- `texels::encode_rgb_pixel` meets its contract: each arm stores the bytes of its format as one word. Assumes nothing.
-use mathlib.Core.Path.{_≡_, refl, sym, ap, _∙_}
+use mathlib.Core.Path.{refl, sym, ap, _∙_}
 use mathlib.Core.Bool.{false≢true}
 use native.Mathlib.Omega.{arith}
 use Rattle.formats.specs.Classes.{rgbFormats, isConvertibleRgb}
 use Rattle.formats.specs.Table.{bytesOf, partsOf}
-use Rattle.formats.specs.Listed.{not-listed}
-use Rattle.texels.proofs.Arms.{encode-arm}
+use Rattle.texels.proofs.Arms.{encode-arm, no-arm}
 use borrow.Author.Needs.{needs}
 use Rattle.texels.proofs.encode_rgb_pixel.Statement.{statement}
 use Rattle.texels.proofs.encode_rgb_pixel.Tie as tie
@@ -182,7 +181,7 @@ returns-13 : tie.Need-returns-13
 unfolding isConvertibleRgb
 returns-13 c =
     let f = c .before .before .args .d3d-format in
-    absurd (false≢true (sym (not-listed f rgbFormats (c .match .rest .0 .0 .0 .0 .0 .0 .0 .0 .0 .0 .0 .1, (c .match .rest .0 .0 .0 .0 .0 .0 .0 .0 .0 .0 .1, (c .match .rest .0 .0 .0 .0 .0 .0 .0 .0 .0 .1, (c .match .rest .0 .0 .0 .0 .0 .0 .0 .0 .1, (c .match .rest .0 .0 .0 .0 .0 .0 .0 .1, (c .match .rest .0 .0 .0 .0 .0 .0 .1, (c .match .rest .0 .0 .0 .0 .0 .1, (c .match .rest .0 .0 .0 .0 .1, (c .match .rest .0 .0 .0 .1, (c .match .rest .0 .0 .1, (c .match .rest .0 .1, (c .match .rest .1, tt))))))))))))) ∙ c .before .before .pre .0))
+    absurd (false≢true (sym (no-arm rgbFormats rgbFormats f (c .match .rest) tt) ∙ c .before .before .pre .0))
 
 pub encode-rgb-pixel-spec : {M : Type 1} → statement M
 encode-rgb-pixel-spec =

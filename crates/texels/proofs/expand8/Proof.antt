@@ -1,5 +1,5 @@
 -- `texels::expand8` meets its contract: a byte is its own expansion. Assumes nothing.
-use mathlib.Core.Path.{_≡_, sym}
+use mathlib.Core.Path.{sym}
 use Prim.Native.Nat.{_%_}
 use native.Mathlib.Omega.{arith}
 use Rattle.texels.specs.Words.{expanded-eight}

@@ -1,5 +1,5 @@
 -- `wentuqis::convert_unpack_pack` meets its contract: by the contracts of the three calls alone. Assumes nothing.
-use mathlib.Core.Path.{_≡_, sym, _∙_, subst}
+use mathlib.Core.Path.{sym, _∙_, subst}
 use Prim.Native.Nat.{ℕ, _<_}
 use denote.Ref.{now}
 use Rattle.depth_texture.specs.RoundTrip.{unpacked-refused, packed-refused}

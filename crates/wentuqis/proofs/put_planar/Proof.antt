@@ -1,5 +1,5 @@
 -- `wentuqis::put_planar` meets its contract: by the two answers. Assumes nothing.
-use mathlib.Core.Path.{_≡_, sym, ap}
+use mathlib.Core.Path.{sym, ap}
 use Rattle.planar_yuv.specs.Answers.{replyOf}
 use Rattle.wentuqis.specs.Calls.{planarValues}
 use borrow.Author.Needs.{needs}

@@ -1,5 +1,5 @@
 -- `wentuqis::put_planes` meets its contract: by the four answers. Assumes nothing.
-use mathlib.Core.Path.{_≡_, sym, ap}
+use mathlib.Core.Path.{sym, ap}
 use Rattle.depth_texture.specs.Layouts.{answerNumber, answerLayout}
 use Rattle.wentuqis.specs.Calls.{planeValues}
 use borrow.Author.Needs.{needs}

@@ -1,5 +1,5 @@
 -- `wentuqis::wentuqis_convert_region` meets its contract: the inner call, its reply as document 01's number. Assumes nothing.
-use mathlib.Core.Path.{_≡_, ap, _∙_}
+use mathlib.Core.Path.{ap, _∙_}
 use Rattle.pixel_convert.specs.Regions.{replyNumber}
 use borrow.Author.Needs.{needs}
 use Rattle.wentuqis.proofs.wentuqis_convert_region.Statement.{statement}

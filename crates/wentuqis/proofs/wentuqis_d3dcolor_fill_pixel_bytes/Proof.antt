@@ -1,5 +1,5 @@
 -- `wentuqis::wentuqis_d3dcolor_fill_pixel_bytes` meets its contract: the inner call's pixel, whose length is a texel's. Assumes nothing.
-use mathlib.Core.Path.{_≡_, sym, subst}
+use mathlib.Core.Path.{sym, subst}
 use mathlib.Core.Bool.{Bool, true, false}
 use mathlib.Core.Logic.{⊎-elim}
 use Prim.Native.Nat.{ℕ, _/_, _<_}

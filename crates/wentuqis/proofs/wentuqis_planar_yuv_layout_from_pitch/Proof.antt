@@ -1,5 +1,5 @@
 -- `wentuqis::wentuqis_planar_yuv_layout_from_pitch` meets its contract: the inner call's answer, in document 01's numbers. Assumes nothing.
-use mathlib.Core.Path.{_≡_, sym, ap, _∙_, subst}
+use mathlib.Core.Path.{sym, ap, _∙_, subst}
 use Rattle.planar_yuv.specs.Answers.{Reply, planes-given}
 use Rattle.wentuqis.specs.Calls.{planarValues, PlanesApart}
 use borrow.Author.Needs.{needs}

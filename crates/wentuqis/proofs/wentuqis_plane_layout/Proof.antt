@@ -1,5 +1,5 @@
 -- `wentuqis::wentuqis_plane_layout` meets its contract: the inner call's answer, in document 01's numbers. Assumes nothing.
-use mathlib.Core.Path.{_≡_, sym, ap, _∙_, subst}
+use mathlib.Core.Path.{sym, ap, _∙_, subst}
 use mathlib.Core.List.{List}
 use Prim.Native.Nat.{ℕ}
 use Rattle.depth_texture.specs.Layouts.{Stands, Pitches}

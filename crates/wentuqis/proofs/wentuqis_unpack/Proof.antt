@@ -1,5 +1,5 @@
 -- `wentuqis::wentuqis_unpack` meets its contract: the inner call, its reply as document 01's number. Assumes nothing.
-use mathlib.Core.Path.{_≡_, sym, _∙_}
+use mathlib.Core.Path.{sym, _∙_}
 use borrow.Author.Needs.{needs}
 use Rattle.wentuqis.proofs.wentuqis_unpack.Statement.{statement}
 use Rattle.wentuqis.proofs.wentuqis_unpack.Tie as tie

@@ -1,5 +1,5 @@
 -- `wentuqis::wentuqis_yuv_to_rgb8` meets its contract: the inner call's colour, byte by byte. Assumes nothing.
-use mathlib.Core.Path.{_≡_, ap}
+use mathlib.Core.Path.{ap}
 use Rattle.wentuqis.specs.Calls.{rgbList}
 use borrow.Author.Needs.{needs}
 use Rattle.wentuqis.proofs.wentuqis_yuv_to_rgb8.Statement.{statement}
