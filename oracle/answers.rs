@@ -25,7 +25,7 @@ pub fn effort(region: &Region) -> u128 {
         .saturating_mul(region.width.max(1).into())
 }
 
-/// Whether it can be asked of a conversion with this reply by document 01: it refuses before it
+/// Whether it can be asked of a conversion with this reply by the documents: it refuses before it
 /// looks at a texel, or no sum of its wraps and it `ends` soon.
 pub fn can_convert(call: &ConvertCall, reply: u32, ends: impl FnOnce() -> bool) -> bool {
     let fits = || paper::is_empty(&call.region) || call.conversion().sums_fit();

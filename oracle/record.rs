@@ -341,10 +341,13 @@ fn bytes_a_texel(format: u32) -> u32 {
     least.expect("a format that converts") as u32
 }
 
-/// The nearest bytes to 255 × code / max, which document 02 asks for.
+/// The nearest bytes to 255 × code / max, which document 02 asks for: of every code of two and of
+/// ten bits, and of eight bits with a sign.
 fn nearest_bytes() -> Sample {
-    [3, 1023, 127]
+    let record = |code, part, max| [code, max, stills::nearest(part, max).into()];
+    let unsigned = [3, 1023]
         .into_iter()
-        .flat_map(|max| (0..=max).map(move |code| [code, max, stills::nearest(code, max).into()]))
-        .collect()
+        .flat_map(|max| (0..=max).map(move |code| record(code, code, max)));
+    let signed = (0..=255).map(|code| record(code, stills::positive(code as u8), 127));
+    unsigned.chain(signed).collect()
 }

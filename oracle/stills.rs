@@ -84,14 +84,18 @@ impl Lane {
                 let part = texel >> low & whole;
                 Value { part, whole }
             }
-            Signed { low } => {
-                let code = (texel >> low) as u8 as i8;
-                let part = u32::try_from(code).unwrap_or(0);
-                Value { part, whole: 127 }
-            }
+            Signed { low } => Value {
+                part: positive((texel >> low) as u8),
+                whole: 127,
+            },
             Lacking => Value { part: 1, whole: 1 },
         }
     }
+}
+
+/// A code in two's complement, and 0 where it is negative.
+pub fn positive(code: u8) -> u32 {
+    u32::try_from(code as i8).unwrap_or(0)
 }
 
 /// The byte nearest to 255 × part / whole; two that are equally near are an error.

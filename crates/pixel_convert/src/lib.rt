@@ -1,5 +1,5 @@
 // Conversion of a region of texels from one format into another: the RGB formats into each other, packed and planar YUV into RGB,
-// and wide, ten-bit and signed formats into A8R8G8B8. Refused, before any byte is written: a pair that does not convert, a planar
+// and wide, ten-bit, 16-bit and signed formats into A8R8G8B8. Refused, before any byte is written: a pair that does not convert, a planar
 // source that is no single slice of whole rows, and a region with a texel outside the source or the destination. specs/Regions has
 // the reply, the bytes and what is promised of them; what texels decode and encode to is in the crate `texels`, where they lie in
 // `places`.

@@ -23,7 +23,7 @@ use Rattle.texels.specs.declared.Texel.{Texel}
 abbrev pub nearestByte : Fraction → ℕ
 nearestByte x = rounded (x .top) (x .bottom)
 
--- the byte of an unsigned code of n bits: up to eight bits are repeated, more go to the nearest byte
+-- the byte of an unsigned code of n bits: up to eight bits are repeated (two bits: 85 k), more go to the nearest byte
 abbrev pub codeByte : (n k : ℕ) → ℕ
 codeByte n k = pick (leb n 8) (expanded n k) (nearestByte (codeValue n k))
 

@@ -1,5 +1,6 @@
 // A texel as a byte for each channel, from the word that it is in its format and back: the RGB formats, and as sources also those
-// that convert into A8R8G8B8 alone. specs/Texels has what a word decodes to and a texel encodes to, from the lane table, and the exact values of its channels.
+// that convert into A8R8G8B8 alone. specs/Texels has what a word decodes to and a texel encodes to, from the lane table, and the
+// exact values of its channels.
 // Ported from pixel_convert.rs of athei/mtld3d (an altered version, see NOTICE).
 ghost use mathlib.Core.Path.{_≡_};
 ghost use mathlib.Core.Bool.{true};
