@@ -151,11 +151,12 @@ pub fn unorm10_to_unorm8(v: u32) -> u8
     nearest_byte(v % 1024, 1023)
 }
 
-// An eight-bit code with a sign, and 0 where it is negative; the compiler makes no jump of it.
+// An eight-bit code with a sign, and 0 where it is negative: the sign bit takes it away, with no jump.
 fn not_negative8(code: u32) -> u32
+    requires { ⌜ code < 256 ⌝ }
     ensures { λ r. ⌜ r ≡ notNegative 8 code ⌝ }
 {
-    if code < 128 { code } else { 0 }
+    code - code / 128 * code
 }
 
 // The eight low bits of a word, a code with a sign, as the nearest byte: 0 where it is negative. 127 is odd, so there is no tie.

@@ -21,10 +21,11 @@ pub false-is : (b : Bool) → T (not b) → false ≡ b
 false-is true t = absurd t
 false-is false t = refl
 
-here : (x k : ℕ) (ks : List ℕ) → x ≡ k → true ≡ listed x (k ∷ ks)
+-- the first of a list, and the others
+pub here : (x k : ℕ) (ks : List ℕ) → x ≡ k → true ≡ listed x (k ∷ ks)
 here x k ks e = subst (λ (b : Bool). true ≡ elim b [ true ↦ true | false ↦ listed x ks ]) (sym (eq-eqb x k e)) refl
 
-later : (b : Bool) (x k : ℕ) (ks : List ℕ) → eqb x k ≡ false → b ≡ listed x ks → b ≡ listed x (k ∷ ks)
+pub later : (b : Bool) (x k : ℕ) (ks : List ℕ) → eqb x k ≡ false → b ≡ listed x ks → b ≡ listed x (k ∷ ks)
 later b x k ks e h = subst (λ (t : Bool). b ≡ elim t [ true ↦ true | false ↦ listed x ks ]) (sym e) h
 
 -- x is one of an arm's codes

@@ -27,9 +27,16 @@ isPackedYuv f = listed f (YUY2 ∷ UYVY ∷ [])
 unfoldable pub isPlanarYuv : ℕ → Bool
 isPlanarYuv f = listed f (NV12 ∷ YV12 ∷ [])
 
--- the sources of A8R8G8B8 alone: four channels of 16 bits or of binary32; ten-bit stills, pairs and luminance of 16 bits; normal maps
+-- the sources of A8R8G8B8 alone whose channels are whole numbers: of 16 bits, of ten and two, and of eight with a sign
+abbrev pub codeSources : List ℕ
+codeSources = A16B16G16R16 ∷ A2R10G10B10 ∷ A2B10G10R10 ∷ G16R16 ∷ L16 ∷ V8U8 ∷ Q8W8V8U8 ∷ []
+
+unfoldable pub isCodeSource : ℕ → Bool
+isCodeSource f = listed f codeSources
+
+-- the sources of A8R8G8B8 alone: these, and four channels of binary32
 abbrev pub argbSources : List ℕ
-argbSources = A16B16G16R16 ∷ A32B32G32R32F ∷ A2R10G10B10 ∷ A2B10G10R10 ∷ G16R16 ∷ L16 ∷ V8U8 ∷ Q8W8V8U8 ∷ []
+argbSources = A32B32G32R32F ∷ codeSources
 
 unfoldable pub isArgbSource : ℕ → Bool
 isArgbSource f = listed f argbSources

@@ -7,9 +7,9 @@ use lib.Dec.{T, eqb, ltb, ltb→lt}
 use lib.Ieee.Bits.{is-false}
 use borrow.Author.Tests.{eqb-true, ne-eqb}
 use Rattle.words.specs.Computed.{both, both-left, both-right}
-use Rattle.formats.specs.Codes.{YV12, NV12}
+use Rattle.formats.specs.Codes.{A32B32G32R32F, YV12, NV12}
 use Rattle.formats.specs.Table.{partsOf, bytesOf}
-use Rattle.formats.specs.Classes.{listed, rgbFormats, argbSources, isConvertibleRgb, isPackedYuv, isPlanarYuv, isArgbSource, isLaneSource}
+use Rattle.formats.specs.Classes.{listed, rgbFormats, codeSources, argbSources, isConvertibleRgb, isPackedYuv, isPlanarYuv, isCodeSource, isArgbSource, isLaneSource}
 
 -- a test at every code of a list holds of a code that is in it
 abbrev pub everyCode : (ℕ → Bool) → List ℕ → Bool
@@ -54,6 +54,28 @@ pub rgb-not-packed : (f : ℕ) → isConvertibleRgb f ≡ true → isPackedYuv f
 unfolding isConvertibleRgb isPackedYuv
 rgb-not-packed f h = is-false (isPackedYuv f) (listed-at (λ g. not (isPackedYuv g)) rgbFormats tt f h)
 
+-- a source of A8R8G8B8 alone is no RGB format and no YUV, and its texels have bytes
+pub argb-only : (f : ℕ) → isArgbSource f ≡ true → (isConvertibleRgb f ≡ false) × (isPackedYuv f ≡ false) × (isPlanarYuv f ≡ false)
+unfolding isArgbSource isConvertibleRgb isPackedYuv isPlanarYuv
+argb-only f h = (
+  is-false (isConvertibleRgb f) (listed-at (λ g. not (isConvertibleRgb g)) argbSources tt f h),
+  is-false (isPackedYuv f) (listed-at (λ g. not (isPackedYuv g)) argbSources tt f h),
+  is-false (isPlanarYuv f) (listed-at (λ g. not (isPlanarYuv g)) argbSources tt f h),
+)
+
+pub argb-some : (f : ℕ) → isArgbSource f ≡ true → 0 < bytesOf f
+unfolding isArgbSource bytesOf partsOf
+argb-some f h = ltb→lt 0 (bytesOf f) (listed-at (λ g. ltb 0 (bytesOf g)) argbSources tt f h)
+
+-- among them are those of whole numbers
+pub code-argb : (f : ℕ) → isCodeSource f ≡ true → isArgbSource f ≡ true
+unfolding isCodeSource isArgbSource
+code-argb f h = go (eqb f A32B32G32R32F)
+  where
+    go : (b : Bool) → elim b [ true ↦ true | false ↦ listed f codeSources ] ≡ true
+    go true = refl
+    go false = h
+
 -- planar YUV is no packed YUV
 pub planar-not-packed : (f : ℕ) → isPlanarYuv f ≡ true → isPackedYuv f ≡ false
 unfolding isPlanarYuv isPackedYuv
@@ -61,10 +83,10 @@ planar-not-packed f h = is-false (isPackedYuv f) (listed-at (λ g. not (isPacked
 
 -- a texel with lanes has bytes
 pub lane-some : (f : ℕ) → isLaneSource f ≡ true → 0 < bytesOf f
-unfolding isLaneSource isArgbSource bytesOf partsOf
+unfolding isLaneSource
 lane-some f h = go (isConvertibleRgb f) (isArgbSource f) refl refl h
   where
     go : (a b : Bool) → isConvertibleRgb f ≡ a → isArgbSource f ≡ b → (a || b) ≡ true → 0 < bytesOf f
     go true b e g k = rgb-some f e
-    go false true e g k = ltb→lt 0 (bytesOf f) (listed-at (λ g. ltb 0 (bytesOf g)) argbSources tt f g)
+    go false true e g k = argb-some f g
     go false false e g k = absurd (false≢true k)

@@ -5,7 +5,7 @@ ghost use mathlib.Core.Path.{_≡_};
 ghost use Prim.Native.Nat.{_≤_};
 ghost use Rattle.formats.specs.Table.{bytesOf};
 ghost use Rattle.words.specs.Multiples.{Raised};
-ghost use Rattle.formats.specs.Classes.{isConvertibleRgb, isPackedYuv, isPlanarYuv, isArgbSource, linearRowPitch};
+ghost use Rattle.formats.specs.Classes.{isConvertibleRgb, isPackedYuv, isPlanarYuv, isCodeSource, isArgbSource, linearRowPitch};
 
 pub const D3DFMT_R8G8B8: u32 = 20;
 
@@ -119,13 +119,12 @@ pub fn is_planar_yuv(d3d_format: u32) -> bool
     }
 }
 
-// Whether a format is no RGB format and converts into A8R8G8B8 alone.
-pub fn is_argb_source(d3d_format: u32) -> bool
-    ensures { λ r. ⌜ r ≡ isArgbSource «d3d_format» ⌝ }
+// Whether a format converts into A8R8G8B8 alone and its channels are whole numbers.
+pub fn is_code_source(d3d_format: u32) -> bool
+    ensures { λ r. ⌜ r ≡ isCodeSource «d3d_format» ⌝ }
 {
     match d3d_format {
         D3DFMT_A16B16G16R16
-        | D3DFMT_A32B32G32R32F
         | D3DFMT_A2R10G10B10
         | D3DFMT_A2B10G10R10
         | D3DFMT_G16R16
@@ -134,6 +133,16 @@ pub fn is_argb_source(d3d_format: u32) -> bool
         | D3DFMT_Q8W8V8U8 => true,
         _ => false,
     }
+}
+
+// Whether a format converts into A8R8G8B8 alone.
+pub fn is_argb_source(d3d_format: u32) -> bool
+    ensures { λ r. ⌜ r ≡ isArgbSource «d3d_format» ⌝ }
+{
+    if d3d_format == D3DFMT_A32B32G32R32F {
+        return true;
+    }
+    is_code_source(d3d_format)
 }
 
 // The bytes of one texel for each code from 0 to that of A32B32G32R32F; 0 for a code that has no lanes.

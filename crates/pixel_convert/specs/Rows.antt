@@ -5,16 +5,13 @@ use mathlib.Core.List.{List}
 use Prim.Native.Nat.{ℕ, _+_, _*_, _/_, _%_, _≤_, _<_}
 use Rattle.words.specs.Iterate.{iterate, iterate-flat, iterate-add}
 use Rattle.formats.specs.Table.{bytesOf}
-use Rattle.formats.specs.Classes.{isConvertibleRgb}
 use Rattle.pixel_convert.specs.declared.ConvertRegion.{ConvertRegion}
-use Rattle.places.specs.Places.{isPicture}
 use Rattle.places.specs.Inside.{TexelFits}
-use Rattle.pixel_convert.specs.Regions.{toAt, rowWritten, sliceWritten, regionWritten}
+use Rattle.pixel_convert.specs.Regions.{canConvert, toAt, rowWritten, sliceWritten, regionWritten}
 
--- the texels of row row of slice z lie within the source and the destination, and the formats are those of a picture and of a destination
+-- the texels of row row of slice z lie within the source and the destination, and the formats convert
 pub record RowFits (n m s d : ℕ) (r : ConvertRegion) (z row : ℕ) : Type 0 where
-  pub picture : isPicture s ≡ true
-  pub rgb : isConvertibleRgb d ≡ true
+  pub pair : canConvert s d ≡ true
   pub rows : (0 < r .width) × (r .«src_y» + row ≤ 4294967295) × (r .«dst_y» + row ≤ 4294967295)
   pub source : (col : ℕ) → col < r .width → TexelFits n s (r .«src_pitch») (r .«src_slice_pitch») z (r .«src_y» + row) (r .«src_x» + col)
   pub columns : (col : ℕ) → col < r .width → r .«dst_x» + col ≤ 4294967295

@@ -10,9 +10,9 @@ ghost use Prim.Native.Nat.{ℕ, _+_, _≤_, _<_, _%_, _/_};
 ghost use lib.Dec.{eqb};
 ghost use lib.ListN.{length, take};
 ghost use lib.Seq.{sets};
-ghost use Rattle.formats.specs.Codes.{A8R8G8B8, A16B16G16R16};
+ghost use Rattle.formats.specs.Codes.{A8R8G8B8};
 ghost use Rattle.formats.specs.Table.{bytesOf};
-ghost use Rattle.formats.specs.Classes.{isConvertibleRgb, isPackedYuv, isPlanarYuv, isArgbSource};
+ghost use Rattle.formats.specs.Classes.{isConvertibleRgb, isPackedYuv, isPlanarYuv, isCodeSource, isArgbSource};
 ghost use Rattle.planar_yuv.specs.Answers.{Legal};
 ghost use Rattle.texels.specs.Texels.{encodedBytes};
 ghost use Rattle.places.specs.Places.{isPicture, texelStart, layoutPlaces, placesAt, placesIn, bytesAt};
@@ -20,7 +20,6 @@ ghost use Rattle.places.specs.Planar.{LayoutFor};
 ghost use Rattle.pixel_convert.specs.Regions.{opaqueOf, texelOf, texelAt, canConvertUpdate, canConvert, badPlanarShape, isEmpty, sourceInside, destinationInside, replyTo, convertReply, replyNumber, rowWritten, sliceWritten, regionWritten, convertedBytes, NearSource, OthersKept};
 ghost use Rattle.pixel_convert.specs.Rows.{RowFits};
 use formats::D3DFMT_A8R8G8B8;
-use formats::D3DFMT_A16B16G16R16;
 use planar_yuv::PlanarYuvLayout;
 use stretch_rect::Rgb;
 use texels::Texel;
@@ -100,7 +99,7 @@ fn fetch_packed(macropixel: &[u8], d3d_format: u32, x: usize) -> Texel
     opaque(stretch_rect::decode_packed_yuv(d3d_format, macropixel, x % 2 == 1))
 }
 
-// The texel at slice z, row y and column x; `size` is its format's bytes and `layout` a planar source's.
+// The texel at slice z, row y and column x of any other source; `size` is its format's bytes and `layout` a planar source's.
 fn fetch(
     src: &[u8],
     d3d_format: u32,
@@ -112,7 +111,7 @@ fn fetch(
     y: usize,
     x: usize,
 ) -> Texel
-    requires { ⌜ (isPicture «d3d_format» ≡ true) × (size ≡ bytesOf «d3d_format») × (LayoutFor «d3d_format» pitch («slice_pitch» / pitch) layout) × (placesIn (length (now src)) (placesAt «d3d_format» pitch «slice_pitch» z y x) ≡ true) ⌝ }
+    requires { ⌜ (isPicture «d3d_format» ≡ true) × (size ≡ bytesOf «d3d_format») × (LayoutFor «d3d_format» pitch («slice_pitch» / pitch) layout) × (placesIn (length (now src)) (placesAt «d3d_format» pitch «slice_pitch» z y x) ≡ true) × (isCodeSource «d3d_format» ≡ false) ⌝ }
     ensures { λ r. ⌜ r ≡ texelAt (now (src .entry)) «d3d_format» pitch «slice_pitch» z y x ⌝ }
 {
     if formats::is_planar_yuv(d3d_format) {
@@ -145,20 +144,22 @@ fn store(
     texels::encode_rgb_pixel(d3d_format, t, &mut dst[to..]);
 }
 
-// The texel of A16B16G16R16 at slice z, row y and column x.
-fn fetch_a16b16g16r16(
+// The texel at slice z, row y and column x of a source of whole numbers that converts into A8R8G8B8 alone; `bytes` is their number.
+fn fetch_code(
     src: &[u8],
+    d3d_format: u32,
+    bytes: usize,
     pitch: usize,
     slice_pitch: usize,
     z: usize,
     y: usize,
     x: usize,
 ) -> Texel
-    requires { ⌜ placesIn (length (now src)) (placesAt A16B16G16R16 pitch «slice_pitch» z y x) ≡ true ⌝ }
-    ensures { λ r. ⌜ r ≡ texelAt (now (src .entry)) A16B16G16R16 pitch «slice_pitch» z y x ⌝ }
+    requires { ⌜ (isCodeSource «d3d_format» ≡ true) × (bytes ≡ bytesOf «d3d_format») × (placesIn (length (now src)) (placesAt «d3d_format» pitch «slice_pitch» z y x) ≡ true) ⌝ }
+    ensures { λ r. ⌜ r ≡ texelAt (now (src .entry)) «d3d_format» pitch «slice_pitch» z y x ⌝ }
 {
-    let from = z * slice_pitch + y * pitch + x * 8;
-    texels::decode_a16b16g16r16(&src[from..])
+    let from = z * slice_pitch + y * pitch + x * bytes;
+    texels::decode_code_source(d3d_format, &src[from..])
 }
 
 // A texel's bytes in A8R8G8B8 at slice z, row y and column x.
@@ -180,7 +181,7 @@ fn store_a8r8g8b8(
 
 // ---- a region
 
-// A row of any two formats, which each texel's fetch and store select by.
+// A row of any other source, in any two formats, which each texel's fetch and store select by.
 fn texel_row(
     dst: &mut [u8],
     dst_format: u32,
@@ -190,7 +191,7 @@ fn texel_row(
     z: usize,
     row: usize,
 )
-    requires { ⌜ RowFits (length (now src)) (length (now dst)) «src_format» «dst_format» region z row ⌝ }
+    requires { ⌜ (RowFits (length (now src)) (length (now dst)) «src_format» «dst_format» region z row) × (isCodeSource «src_format» ≡ false) ⌝ }
     ensures { λ _. ⌜ now (dst .exit) ≡ rowWritten (now (src .entry)) «src_format» «dst_format» region z row (now (dst .entry)) ⌝ }
 {
     let sx = region.src_x as usize;
@@ -213,10 +214,17 @@ fn texel_row(
     }
 }
 
-// A row of A16B16G16R16 into A8R8G8B8, with no selection by format.
-fn wide_row(dst: &mut [u8], src: &[u8], region: ConvertRegion, z: usize, row: usize)
-    requires { ⌜ RowFits (length (now src)) (length (now dst)) A16B16G16R16 A8R8G8B8 region z row ⌝ }
-    ensures { λ _. ⌜ now (dst .exit) ≡ rowWritten (now (src .entry)) A16B16G16R16 A8R8G8B8 region z row (now (dst .entry)) ⌝ }
+// A row of a source of whole numbers that converts into A8R8G8B8 alone.
+fn code_row(
+    dst: &mut [u8],
+    src: &[u8],
+    src_format: u32,
+    region: ConvertRegion,
+    z: usize,
+    row: usize,
+)
+    requires { ⌜ (RowFits (length (now src)) (length (now dst)) «src_format» A8R8G8B8 region z row) × (isCodeSource «src_format» ≡ true) ⌝ }
+    ensures { λ _. ⌜ now (dst .exit) ≡ rowWritten (now (src .entry)) «src_format» A8R8G8B8 region z row (now (dst .entry)) ⌝ }
 {
     let from_x = region.src_x as usize;
     let to_x = region.dst_x as usize;
@@ -227,9 +235,19 @@ fn wide_row(dst: &mut [u8], src: &[u8], region: ConvertRegion, z: usize, row: us
     let from_slice = region.src_slice_pitch;
     let to_slice = region.dst_slice_pitch;
     let texels = region.width as usize;
+    let bytes = formats::bytes_per_texel(src_format);
     let mut k: usize = 0;
     while k < texels {
-        let t = fetch_a16b16g16r16(src, from_pitch, from_slice, z, from_y, from_x + k);
+        let t = fetch_code(
+            src,
+            src_format,
+            bytes,
+            from_pitch,
+            from_slice,
+            z,
+            from_y,
+            from_x + k,
+        );
         store_a8r8g8b8(dst, to_pitch, to_slice, z, to_y, to_x + k, t);
         k += 1;
     }
@@ -247,11 +265,9 @@ fn convert_row(
     requires { ⌜ RowFits (length (now src)) (length (now dst)) «src_format» «dst_format» region z row ⌝ }
     ensures { λ _. ⌜ now (dst .exit) ≡ rowWritten (now (src .entry)) «src_format» «dst_format» region z row (now (dst .entry)) ⌝ }
 {
-    if is_argb_pair(src_format, dst_format) {
-        if src_format == D3DFMT_A16B16G16R16 {
-            wide_row(dst, src, region, z, row);
-            return;
-        }
+    if formats::is_code_source(src_format) {
+        code_row(dst, src, src_format, region, z, row);
+        return;
     }
     texel_row(dst, dst_format, src, src_format, region, z, row);
 }

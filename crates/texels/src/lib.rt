@@ -3,14 +3,15 @@
 // exact values of its channels.
 // Ported from pixel_convert.rs of athei/mtld3d (an altered version, see NOTICE).
 ghost use mathlib.Core.Path.{_≡_};
-ghost use mathlib.Core.Bool.{true};
+ghost use mathlib.Core.Bool.{true, _||_};
 ghost use Prim.Native.Nat.{_*_, _≤_, _%_};
+ghost use lib.Dec.{eqb};
 ghost use lib.ListN.{length, take};
 ghost use lib.Seq.{sets};
 ghost use Rattle.words.specs.Little.{number};
 ghost use Rattle.formats.specs.Codes.{R8G8B8, A8R8G8B8, X8R8G8B8, R5G6B5, X1R5G5B5, A1R5G5B5, A4R4G4B4, A8, A2B10G10R10, A8B8G8R8, X8B8G8R8, G16R16, A2R10G10B10, A16B16G16R16, L8, A8L8, V8U8, Q8W8V8U8, L16, A32B32G32R32F};
 ghost use Rattle.formats.specs.Table.{bytesOf};
-ghost use Rattle.formats.specs.Classes.{isConvertibleRgb, isLaneSource};
+ghost use Rattle.formats.specs.Classes.{isConvertibleRgb, isCodeSource};
 ghost use Rattle.channels.specs.Expansion.{expanded};
 ghost use Rattle.channels.specs.Nearest.{rounded};
 ghost use Rattle.texels.specs.Texels.{decodedOf, encodedOf, encodedBytes};
@@ -250,7 +251,7 @@ fn decode_q8w8v8u8(v: u32) -> Texel
 }
 
 // Four 16-bit channels, each the nearest byte.
-pub fn decode_a16b16g16r16(px: &[u8]) -> Texel
+fn decode_a16b16g16r16(px: &[u8]) -> Texel
     requires { ⌜ 8 ≤ length (now px) ⌝ }
     ensures { λ r. ⌜ r ≡ decodedOf A16B16G16R16 (number (take 8 (now (px .entry)))) ⌝ }
 {
@@ -275,9 +276,9 @@ fn decode_a32b32g32r32f(px: &[u8]) -> Texel
     }
 }
 
-// The texel at the front of `px`, of one of the formats that have lanes and are a source.
+// The texel at the front of `px`, of one of the RGB formats or of A32B32G32R32F.
 pub fn decode_pixel(d3d_format: u32, px: &[u8]) -> Texel
-    requires { ⌜ (isLaneSource «d3d_format» ≡ true) × (bytesOf «d3d_format» ≤ length (now px)) ⌝ }
+    requires { ⌜ ((isConvertibleRgb «d3d_format» || eqb «d3d_format» A32B32G32R32F) ≡ true) × (bytesOf «d3d_format» ≤ length (now px)) ⌝ }
     ensures { λ r. ⌜ r ≡ decodedOf «d3d_format» (number (take (bytesOf «d3d_format») (now (px .entry)))) ⌝ }
 {
     match d3d_format {
@@ -291,10 +292,25 @@ pub fn decode_pixel(d3d_format: u32, px: &[u8]) -> Texel
         D3DFMT_A8 => decode_a8(words::le8(px)),
         D3DFMT_A8B8G8R8 => decode_a8b8g8r8(words::le32(px)),
         D3DFMT_X8B8G8R8 => decode_x8b8g8r8(words::le32(px)),
-        D3DFMT_A16B16G16R16 => decode_a16b16g16r16(px),
         D3DFMT_L8 => decode_l8(words::le8(px)),
         D3DFMT_A8L8 => decode_a8l8(words::le16(px)),
         D3DFMT_A32B32G32R32F => decode_a32b32g32r32f(px),
+        _ => Texel {
+            r: 0,
+            g: 0,
+            b: 0,
+            a: 0xff,
+        },
+    }
+}
+
+// The same, of one of the other formats that convert into A8R8G8B8 alone.
+pub fn decode_code_source(d3d_format: u32, px: &[u8]) -> Texel
+    requires { ⌜ (isCodeSource «d3d_format» ≡ true) × (bytesOf «d3d_format» ≤ length (now px)) ⌝ }
+    ensures { λ r. ⌜ r ≡ decodedOf «d3d_format» (number (take (bytesOf «d3d_format») (now (px .entry)))) ⌝ }
+{
+    match d3d_format {
+        D3DFMT_A16B16G16R16 => decode_a16b16g16r16(px),
         D3DFMT_A2R10G10B10 => decode_a2r10g10b10(words::le32(px)),
         D3DFMT_A2B10G10R10 => decode_a2b10g10r10(words::le32(px)),
         D3DFMT_G16R16 => decode_g16r16(words::le32(px)),

@@ -1,32 +1,24 @@
--- `formats::is_argb_source` meets its contract: the arm's codes and its range are the class's list. Assumes nothing.
-use mathlib.Core.List.{List, [], _∷_}
-use Prim.Native.Nat.{ℕ}
-use native.Mathlib.Omega.{arith}
-use Rattle.formats.specs.Codes.{A2B10G10R10, V8U8, Q8W8V8U8, L16, A32B32G32R32F}
-use Rattle.formats.specs.Classes.{argbSources, isArgbSource}
-use Rattle.formats.proofs.Arms.{in-range, among, outside}
+-- `formats::is_argb_source` meets its contract: the first of the class's list, or one of the others. Assumes nothing.
+use borrow.Author.Tests.{ne-eqb}
+use Rattle.formats.specs.Codes.{A32B32G32R32F}
+use Rattle.formats.specs.Classes.{codeSources, isCodeSource, isArgbSource}
+use Rattle.formats.proofs.Arms.{here, later}
+use borrow.Author.Needs.{needs}
 use Rattle.formats.proofs.is_argb_source.Statement.{statement}
 use Rattle.formats.proofs.is_argb_source.Tie as tie
 
--- 34, 35 and 36 are a range, and the others stand alone
-abbrev alone : List ℕ
-alone = A2B10G10R10 ∷ V8U8 ∷ Q8W8V8U8 ∷ L16 ∷ A32B32G32R32F ∷ []
-
 returns : tie.Need-returns
 unfolding isArgbSource
-returns c = outside 34 37 alone argbSources (c .before .before .args .d3d-format) (c .before .match .rest .1) (λ l u. omega (arith, c .if1 .taken)) tt
+returns c = here (c .before .args .d3d-format) A32B32G32R32F codeSources (c .if1 .taken)
+
+is-code-source-requires : tie.Need-is-code-source-requires
+is-code-source-requires c κs = search needs
 
 returns-2 : tie.Need-returns-2
-unfolding isArgbSource
-returns-2 c = outside 34 37 alone argbSources (c .before .before .before .args .d3d-format) (c .before .before .match .rest .1) (λ l u. omega (arith, c .if2 .left)) tt
-
-returns-3 : tie.Need-returns-3
-unfolding isArgbSource
-returns-3 c = among alone argbSources (c .before .args .d3d-format) (c .match .keys1) tt
-
-returns-4 : tie.Need-returns-4
-unfolding isArgbSource
-returns-4 c = in-range isArgbSource 34 37 (c .before .before .before .args .d3d-format) (c .before .if1 .left) (c .if2 .taken) tt
+unfolding isArgbSource isCodeSource
+returns-2 c =
+    let f = c .before .before .args .d3d-format in
+    later _ f A32B32G32R32F codeSources (ne-eqb f A32B32G32R32F (c .before .if1 .left)) (c .is-code-source .ensures)
 
 pub is-argb-source-spec : {M : Type 1} → statement M
-is-argb-source-spec = tie.close (tie.spec returns returns-2 returns-3 returns-4)
+is-argb-source-spec = tie.close (tie.spec returns is-code-source-requires returns-2)

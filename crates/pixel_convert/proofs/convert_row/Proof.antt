@@ -1,54 +1,52 @@
--- `pixel_convert::convert_row` meets its contract: the row of the two formats at hand. Assumes nothing.
-use mathlib.Core.Path.{_≡_, sym, ap₂, _∙_, subst}
+-- `pixel_convert::convert_row` meets its contract: the row of the source at hand. Assumes nothing.
+use mathlib.Core.Path.{_≡_, sym, ap, _∙_, subst}
+use mathlib.Core.Bool.{true}
 use Prim.Native.Nat.{ℕ}
-use lib.Dec.{eqb}
 use lib.ListN.{length}
 use denote.Ref.{now}
-use borrow.Author.Tests.{eqb-true}
-use Rattle.words.specs.Tests.{and-left}
-use Rattle.formats.specs.Codes.{A8R8G8B8, A16B16G16R16}
-use Rattle.formats.specs.Classes.{isArgbSource}
+use Rattle.formats.specs.Codes.{A8R8G8B8}
+use Rattle.formats.specs.Classes.{isCodeSource}
+use Rattle.formats.specs.Listed.{code-argb}
 use Rattle.pixel_convert.specs.Regions.{rowWritten}
 use Rattle.pixel_convert.specs.Rows.{RowFits}
+use Rattle.pixel_convert.specs.Answers.{argb-into}
 use borrow.Author.Needs.{needs}
 use Rattle.pixel_convert.proofs.convert_row.Statement.{statement}
 use Rattle.pixel_convert.proofs.convert_row.Tie as tie
 
-abbrev start : tie.Then2 → tie.Start
-start c = c .before .before .before .before .before
+abbrev start : tie.Then1 → tie.Start
+start c = c .before .before .before .before
 
-source : (c : tie.Then2) → start c .args .src-format ≡ A16B16G16R16
-source c = c .if2 .taken
+code : (c : tie.Then1) → isCodeSource (start c .args .src-format) ≡ true
+code c = sym (c .before .is-code-source .ensures) ∙ c .if1 .taken
 
-destination : (c : tie.Then2) → start c .args .dst-format ≡ A8R8G8B8
-destination c =
-    let g = start c .args in
-    eqb-true (g .dst-format) A8R8G8B8 (and-left (eqb (g .dst-format) A8R8G8B8) (isArgbSource (g .src-format)) (sym (c .before .before .is-argb-pair .ensures) ∙ c .before .if1 .taken))
+-- then the destination is A8R8G8B8
+destination : (c : tie.Then1) → start c .args .dst-format ≡ A8R8G8B8
+destination c = argb-into (start c .args .src-format) (start c .args .dst-format) (start c .pre .pair) (code-argb (start c .args .src-format) (code c))
 
-is-argb-pair-requires : tie.Need-is-argb-pair-requires
-is-argb-pair-requires c κs = search needs
+is-code-source-requires : tie.Need-is-code-source-requires
+is-code-source-requires c κs = search needs
 
-wide-row-requires : tie.Need-wide-row-requires
-wide-row-requires c κs =
-    let s = start (c .before) in
-    let g = s .args in
-    let n = length (now (g .src)) in
-    let m = length (now (g .dst)) in
-    subst (λ (f : ℕ). RowFits n m f A8R8G8B8 (g .region) (g .z) (g .row)) (source (c .before))
-    (subst (λ (d : ℕ). RowFits n m (g .src-format) d (g .region) (g .z) (g .row)) (destination (c .before)) (s .pre))
+code-row-requires : tie.Need-code-row-requires
+code-row-requires c κs =
+    let t = c .before in
+    let g = start t .args in
+    (subst (λ (d : ℕ). RowFits (length (now (g .src))) (length (now (g .dst))) (g .src-format) d (g .region) (g .z) (g .row)) (destination t) (start t .pre), code t)
 
 same-length : tie.Need-same-length
 same-length c = search needs
 
 returns : tie.Need-returns
 returns c =
-    let p = c .before .before .before .before in
-    let g = start p .args in
-    c .before .before .wide-row .ensures
-    ∙ sym (ap₂ (λ (f d : ℕ). rowWritten (now (g .src)) f d (g .region) (g .z) (g .row) (now (g .dst))) (source p) (destination p))
+    let t = c .before .before .before .before in
+    let g = start t .args in
+    c .before .before .code-row .ensures
+    ∙ sym (ap (λ (d : ℕ). rowWritten (now (g .src)) (g .src-format) d (g .region) (g .z) (g .row) (now (g .dst))) (destination t))
 
 texel-row-requires : tie.Need-texel-row-requires
-texel-row-requires c κs = search needs
+texel-row-requires c κs =
+    let e = c .before in
+    (e .before .before .before .before .pre, sym (e .before .is-code-source .ensures) ∙ e .if1 .left)
 
 same-length-2 : tie.Need-same-length-2
 same-length-2 c = search needs
@@ -60,8 +58,8 @@ pub convert-row-spec : {M : Type 1} → statement M
 convert-row-spec =
     tie.close
     (tie.spec
-    is-argb-pair-requires
-    wide-row-requires
+    is-code-source-requires
+    code-row-requires
     same-length
     returns
     texel-row-requires

@@ -1,6 +1,6 @@
 -- `pixel_convert::fetch` meets its contract: by the kind of the picture; the decoder is lent the part that starts at the texel. Assumes nothing.
-use mathlib.Core.Path.{_≡_, sym, ap, _∙_, subst}
-use mathlib.Core.Bool.{true, false}
+use mathlib.Core.Path.{_≡_, refl, sym, ap, _∙_, subst}
+use mathlib.Core.Bool.{Bool, true, false, _||_}
 use mathlib.Core.List.{List}
 use Prim.Native.Nat.{ℕ, _+_, _*_, _/_, _%_, _≤_}
 use native.Mathlib.Omega.{arith}
@@ -9,8 +9,9 @@ use lib.ListN.{length, take, drop, length-take, length-drop}
 use denote.Ref.{now}
 use Rattle.words.specs.Little.{number}
 use Rattle.words.specs.Slices.{part-read}
+use Rattle.formats.specs.Codes.{A32B32G32R32F}
 use Rattle.formats.specs.Table.{bytesOf}
-use Rattle.formats.specs.Classes.{isPackedYuv, isPlanarYuv, isLaneSource}
+use Rattle.formats.specs.Classes.{codeSources, listed, isConvertibleRgb, isPackedYuv, isPlanarYuv, isCodeSource, isArgbSource, isLaneSource}
 use Rattle.formats.specs.Listed.{lane-some}
 use Rattle.texels.specs.Texels.{decodedOf}
 use Rattle.planar_yuv.specs.Answers.{Legal}
@@ -44,6 +45,19 @@ packed-in c =
 
 lanes : (c : tie.Else2) → isLaneSource (c .before .before .before .before .before .args .d3d-format) ≡ true
 lanes c = lanes-left _ (c .before .before .before .before .before .pre .0) (not-planar (c .before .before)) (not-packed c)
+
+-- of the formats with lanes those that the decoder takes
+taken : (c : tie.Else2) → (isConvertibleRgb (c .before .before .before .before .before .args .d3d-format) || eqb (c .before .before .before .before .before .args .d3d-format) A32B32G32R32F) ≡ true
+unfolding isLaneSource isArgbSource isCodeSource
+taken c =
+    let s = c .before .before .before .before .before in
+    let f = s .args .d3d-format in
+    go (isConvertibleRgb f) (eqb f A32B32G32R32F) (listed f codeSources) (s .pre .4) (lanes c)
+  where
+    go : (a e w : Bool) → w ≡ false → (a || elim e [ true ↦ true | false ↦ w ]) ≡ true → (a || e) ≡ true
+    go true e w n h = refl
+    go false true w n h = refl
+    go false false w n h = sym n ∙ h
 
 -- a texel with lanes ends within the source
 lane-in : (c : tie.Else2) → texelStart (c .before .before .before .before .before .args .pitch) (c .before .before .before .before .before .args .slice-pitch) (bytesOf (c .before .before .before .before .before .args .d3d-format)) (c .before .before .before .before .before .args .z) (c .before .before .before .before .before .args .y) (c .before .before .before .before .before .args .x) + bytesOf (c .before .before .before .before .before .args .d3d-format) ≤ length (now (c .before .before .before .before .before .args .src))
@@ -167,7 +181,7 @@ part-decode-pixel-end c = search needs
 decode-pixel-requires : tie.Need-decode-pixel-requires
 decode-pixel-requires c κs =
     let e = c .before in
-    (lanes e, simp (length-take, length-drop) (omega (arith, ends e, e .before .before .before .before .before .pre .1)))
+    (taken e, simp (length-take, length-drop) (omega (arith, ends e, e .before .before .before .before .before .pre .1)))
 
 returns-3 : tie.Need-returns-3
 unfolding texelStart

@@ -14,6 +14,8 @@ use Rattle.texels.specs.Texels.{encodedBytes}
 use Rattle.places.specs.Inside.{TexelFits}
 use Rattle.places.specs.Places.{texelStart}
 use Rattle.pixel_convert.specs.Regions.{toAt, texelAt, sourceTexel, written, rowWritten}
+use Rattle.pixel_convert.specs.Promises.{convert-rgb}
+use Rattle.pixel_convert.specs.Answers.{convert-picture}
 use borrow.Author.Needs.{needs}
 use Rattle.pixel_convert.proofs.texel_row.Statement.{statement}
 use Rattle.pixel_convert.proofs.texel_row.Tie as tie
@@ -33,7 +35,7 @@ start c = c .before .before .before .before .before .before .before .before .bef
 
 -- this turn's texel lies within each buffer
 source : (c : In) → TexelFits (length (now (start c .args .src))) (start c .args .src-format) (start c .args .region .«src_pitch») (start c .args .region .«src_slice_pitch») (start c .args .z) (start c .args .region .«src_y» + start c .args .row) (start c .args .region .«src_x» + c .before .loop .col)
-source c = start c .pre .source (c .before .loop .col) (c .loop-test .taken)
+source c = start c .pre .0 .source (c .before .loop .col) (c .loop-test .taken)
 
 cast-sx : tie.Need-cast-sx Inv-loop μ-loop
 cast-sx c = search needs
@@ -45,13 +47,13 @@ cast-sy : tie.Need-cast-sy Inv-loop μ-loop
 cast-sy c = search needs
 
 add-sy : tie.Need-add-sy Inv-loop μ-loop
-add-sy c = omega (arith, c .before .before .before .before .before .pre .rows)
+add-sy c = omega (arith, c .before .before .before .before .before .pre .0 .rows)
 
 cast-dy : tie.Need-cast-dy Inv-loop μ-loop
 cast-dy c = search needs
 
 add-dy : tie.Need-add-dy Inv-loop μ-loop
-add-dy c = omega (arith, c .before .before .before .before .before .before .pre .rows)
+add-dy c = omega (arith, c .before .before .before .before .before .before .pre .0 .rows)
 
 cast-width : tie.Need-cast-width Inv-loop μ-loop
 cast-width c = search needs
@@ -72,16 +74,16 @@ add-fetch : tie.Need-add-fetch Inv-loop μ-loop
 add-fetch c = omega (arith, source c .column)
 
 fetch-requires : tie.Need-fetch-requires Inv-loop μ-loop
-fetch-requires c κs = (start c .pre .picture, c .before .before .before .before .bytes-per-texel .ensures, c .before .before .source-layout .ensures .1, source c .places)
+fetch-requires c κs = (convert-picture (start c .args .src-format) (start c .args .dst-format) (start c .pre .0 .pair), c .before .before .before .before .bytes-per-texel .ensures, c .before .before .source-layout .ensures .1, source c .places, start c .pre .1)
 
 add-store : tie.Need-add-store Inv-loop μ-loop
-add-store c = omega (arith, start (c .before .before) .pre .columns (c .before .before .before .loop .col) (c .before .before .loop-test .taken))
+add-store c = omega (arith, start (c .before .before) .pre .0 .columns (c .before .before .before .loop .col) (c .before .before .loop-test .taken))
 
 store-requires : tie.Need-store-requires Inv-loop μ-loop
 unfolding toAt
 store-requires c κs =
     let i = c .before .before in
-    (start i .pre .rgb, i .before .before .before .bytes-per-texel2 .ensures, subst (λ (m : ℕ). toAt (start i .args .dst-format) (start i .args .region) (start i .args .z) (start i .args .row) (i .before .loop .col) + bytesOf (start i .args .dst-format) ≤ m) (sym (i .before .loop .inv .1)) (start i .pre .destination (i .before .loop .col) (i .loop-test .taken)))
+    (convert-rgb (start i .args .src-format) (start i .args .dst-format) (start i .pre .0 .pair), i .before .before .before .bytes-per-texel2 .ensures, subst (λ (m : ℕ). toAt (start i .args .dst-format) (start i .args .region) (start i .args .z) (start i .args .row) (i .before .loop .col) + bytesOf (start i .args .dst-format) ≤ m) (sym (i .before .loop .inv .1)) (start i .pre .0 .destination (i .before .loop .col) (i .loop-test .taken)))
 
 add-col : tie.Need-add-col Inv-loop μ-loop
 add-col c = omega (arith, source (c .before .before .before .before .before) .column)

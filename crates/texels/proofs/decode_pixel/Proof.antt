@@ -1,11 +1,10 @@
 -- `texels::decode_pixel` meets its contract: each arm reads the bytes of its format as one word. Assumes nothing.
 use mathlib.Core.Path.{refl, sym, ap, ap₂, _∙_}
 use mathlib.Core.Bool.{_||_, false≢true}
-use mathlib.Core.List.{List, [], _∷_}
-use Prim.Native.Nat.{ℕ}
 use native.Mathlib.Omega.{arith}
-use Rattle.formats.specs.Codes.{R8G8B8, A8R8G8B8, X8R8G8B8, R5G6B5, X1R5G5B5, A1R5G5B5, A4R4G4B4, A8, A2B10G10R10, A8B8G8R8, X8B8G8R8, G16R16, A2R10G10B10, A16B16G16R16, L8, A8L8, V8U8, Q8W8V8U8, L16, A32B32G32R32F}
-use Rattle.formats.specs.Classes.{rgbFormats, argbSources, isConvertibleRgb, isArgbSource, isLaneSource}
+use borrow.Author.Tests.{ne-eqb}
+use Rattle.formats.specs.Codes.{A32B32G32R32F}
+use Rattle.formats.specs.Classes.{rgbFormats, isConvertibleRgb}
 use Rattle.formats.specs.Table.{bytesOf, partsOf}
 use Rattle.texels.proofs.Arms.{decode-arm, no-arm}
 use borrow.Author.Needs.{needs}
@@ -82,69 +81,23 @@ le32-requires-4 c κs = omega (arith, c .before .before .pre .1, ap bytesOf (c .
 decode-x8b8g8r8-requires : tie.Need-decode-x8b8g8r8-requires
 decode-x8b8g8r8-requires c κs = search needs
 
-decode-a16b16g16r16-requires : tie.Need-decode-a16b16g16r16-requires
-unfolding bytesOf partsOf
-decode-a16b16g16r16-requires c κs = omega (arith, c .before .before .pre .1, ap bytesOf (c .match .keys11))
-
 le8-requires-2 : tie.Need-le8-requires-2
 unfolding bytesOf partsOf
-le8-requires-2 c κs = omega (arith, c .before .before .pre .1, ap bytesOf (c .match .keys12))
+le8-requires-2 c κs = omega (arith, c .before .before .pre .1, ap bytesOf (c .match .keys11))
 
 decode-l8-requires : tie.Need-decode-l8-requires
 decode-l8-requires c κs = search needs
 
 le16-requires-5 : tie.Need-le16-requires-5
 unfolding bytesOf partsOf
-le16-requires-5 c κs = omega (arith, c .before .before .pre .1, ap bytesOf (c .match .keys13))
+le16-requires-5 c κs = omega (arith, c .before .before .pre .1, ap bytesOf (c .match .keys12))
 
 decode-a8l8-requires : tie.Need-decode-a8l8-requires
 decode-a8l8-requires c κs = search needs
 
 decode-a32b32g32r32f-requires : tie.Need-decode-a32b32g32r32f-requires
 unfolding bytesOf partsOf
-decode-a32b32g32r32f-requires c κs = omega (arith, c .before .before .pre .1, ap bytesOf (c .match .keys14))
-
-le32-requires-5 : tie.Need-le32-requires-5
-unfolding bytesOf partsOf
-le32-requires-5 c κs = omega (arith, c .before .before .pre .1, ap bytesOf (c .match .keys15))
-
-decode-a2r10g10b10-requires : tie.Need-decode-a2r10g10b10-requires
-decode-a2r10g10b10-requires c κs = search needs
-
-le32-requires-6 : tie.Need-le32-requires-6
-unfolding bytesOf partsOf
-le32-requires-6 c κs = omega (arith, c .before .before .pre .1, ap bytesOf (c .match .keys16))
-
-decode-a2b10g10r10-requires : tie.Need-decode-a2b10g10r10-requires
-decode-a2b10g10r10-requires c κs = search needs
-
-le32-requires-7 : tie.Need-le32-requires-7
-unfolding bytesOf partsOf
-le32-requires-7 c κs = omega (arith, c .before .before .pre .1, ap bytesOf (c .match .keys17))
-
-decode-g16r16-requires : tie.Need-decode-g16r16-requires
-decode-g16r16-requires c κs = search needs
-
-le16-requires-6 : tie.Need-le16-requires-6
-unfolding bytesOf partsOf
-le16-requires-6 c κs = omega (arith, c .before .before .pre .1, ap bytesOf (c .match .keys18))
-
-decode-l16-requires : tie.Need-decode-l16-requires
-decode-l16-requires c κs = search needs
-
-le16-requires-7 : tie.Need-le16-requires-7
-unfolding bytesOf partsOf
-le16-requires-7 c κs = omega (arith, c .before .before .pre .1, ap bytesOf (c .match .keys19))
-
-decode-v8u8-requires : tie.Need-decode-v8u8-requires
-decode-v8u8-requires c κs = search needs
-
-le32-requires-8 : tie.Need-le32-requires-8
-unfolding bytesOf partsOf
-le32-requires-8 c κs = omega (arith, c .before .before .pre .1, ap bytesOf (c .match .keys20))
-
-decode-q8w8v8u8-requires : tie.Need-decode-q8w8v8u8-requires
-decode-q8w8v8u8-requires c κs = search needs
+decode-a32b32g32r32f-requires c κs = omega (arith, c .before .before .pre .1, ap bytesOf (c .match .keys13))
 
 returns : tie.Need-returns
 unfolding bytesOf partsOf
@@ -188,55 +141,22 @@ returns-10 c = decode-arm _ 33 4 _ _ _ (c .before .before .match .keys10) refl (
 
 returns-11 : tie.Need-returns-11
 unfolding bytesOf partsOf
-returns-11 c = decode-arm _ 36 8 _ _ _ (c .before .match .keys11) refl refl (c .decode-a16b16g16r16 .ensures)
+returns-11 c = decode-arm _ 50 1 _ _ _ (c .before .before .match .keys11) refl (c .before .le82 .ensures) (c .decode-l8 .ensures)
 
 returns-12 : tie.Need-returns-12
 unfolding bytesOf partsOf
-returns-12 c = decode-arm _ 50 1 _ _ _ (c .before .before .match .keys12) refl (c .before .le82 .ensures) (c .decode-l8 .ensures)
+returns-12 c = decode-arm _ 51 2 _ _ _ (c .before .before .match .keys12) refl (c .before .le165 .ensures) (c .decode-a8l8 .ensures)
 
 returns-13 : tie.Need-returns-13
 unfolding bytesOf partsOf
-returns-13 c = decode-arm _ 51 2 _ _ _ (c .before .before .match .keys13) refl (c .before .le165 .ensures) (c .decode-a8l8 .ensures)
+returns-13 c = decode-arm _ 116 16 _ _ _ (c .before .match .keys13) refl refl (c .decode-a32b32g32r32f .ensures)
 
 returns-14 : tie.Need-returns-14
-unfolding bytesOf partsOf
-returns-14 c = decode-arm _ 116 16 _ _ _ (c .before .match .keys14) refl refl (c .decode-a32b32g32r32f .ensures)
-
-returns-15 : tie.Need-returns-15
-unfolding bytesOf partsOf
-returns-15 c = decode-arm _ 35 4 _ _ _ (c .before .before .match .keys15) refl (c .before .le325 .ensures) (c .decode-a2r10g10b10 .ensures)
-
-returns-16 : tie.Need-returns-16
-unfolding bytesOf partsOf
-returns-16 c = decode-arm _ 31 4 _ _ _ (c .before .before .match .keys16) refl (c .before .le326 .ensures) (c .decode-a2b10g10r10 .ensures)
-
-returns-17 : tie.Need-returns-17
-unfolding bytesOf partsOf
-returns-17 c = decode-arm _ 34 4 _ _ _ (c .before .before .match .keys17) refl (c .before .le327 .ensures) (c .decode-g16r16 .ensures)
-
-returns-18 : tie.Need-returns-18
-unfolding bytesOf partsOf
-returns-18 c = decode-arm _ 81 2 _ _ _ (c .before .before .match .keys18) refl (c .before .le166 .ensures) (c .decode-l16 .ensures)
-
-returns-19 : tie.Need-returns-19
-unfolding bytesOf partsOf
-returns-19 c = decode-arm _ 60 2 _ _ _ (c .before .before .match .keys19) refl (c .before .le167 .ensures) (c .decode-v8u8 .ensures)
-
-returns-20 : tie.Need-returns-20
-unfolding bytesOf partsOf
-returns-20 c = decode-arm _ 63 4 _ _ _ (c .before .before .match .keys20) refl (c .before .le328 .ensures) (c .decode-q8w8v8u8 .ensures)
-
--- the arms' codes
-abbrev arms : List ℕ
-arms =
-    R8G8B8 ∷ A8R8G8B8 ∷ X8R8G8B8 ∷ R5G6B5 ∷ X1R5G5B5 ∷ A1R5G5B5 ∷ A4R4G4B4 ∷ A8 ∷ A8B8G8R8 ∷ X8B8G8R8 ∷ A16B16G16R16 ∷ L8 ∷ A8L8
-    ∷ A32B32G32R32F ∷ A2R10G10B10 ∷ A2B10G10R10 ∷ G16R16 ∷ L16 ∷ V8U8 ∷ Q8W8V8U8 ∷ []
-
-returns-21 : tie.Need-returns-21
-unfolding isLaneSource isConvertibleRgb isArgbSource
-returns-21 c =
+unfolding isConvertibleRgb
+returns-14 c =
     let f = c .before .before .args .d3d-format in
-    absurd (false≢true (sym (ap₂ _||_ (no-arm arms rgbFormats f (c .match .rest) tt) (no-arm arms argbSources f (c .match .rest) tt)) ∙ c .before .before .pre .0))
+    let m = c .match .rest in
+    absurd (false≢true (sym (ap₂ _||_ (no-arm rgbFormats rgbFormats f (m .0) tt) (ne-eqb f A32B32G32R32F (m .1))) ∙ c .before .before .pre .0))
 
 pub decode-pixel-spec : {M : Type 1} → statement M
 decode-pixel-spec =
@@ -262,24 +182,11 @@ decode-pixel-spec =
     decode-a8b8g8r8-requires
     le32-requires-4
     decode-x8b8g8r8-requires
-    decode-a16b16g16r16-requires
     le8-requires-2
     decode-l8-requires
     le16-requires-5
     decode-a8l8-requires
     decode-a32b32g32r32f-requires
-    le32-requires-5
-    decode-a2r10g10b10-requires
-    le32-requires-6
-    decode-a2b10g10r10-requires
-    le32-requires-7
-    decode-g16r16-requires
-    le16-requires-6
-    decode-l16-requires
-    le16-requires-7
-    decode-v8u8-requires
-    le32-requires-8
-    decode-q8w8v8u8-requires
     returns
     returns-2
     returns-3
@@ -293,11 +200,4 @@ decode-pixel-spec =
     returns-11
     returns-12
     returns-13
-    returns-14
-    returns-15
-    returns-16
-    returns-17
-    returns-18
-    returns-19
-    returns-20
-    returns-21)
+    returns-14)
