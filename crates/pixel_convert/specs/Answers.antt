@@ -34,6 +34,11 @@ convert-picture s d h = go (isConvertibleRgb s) (isPackedYuv s) (isConvertibleRg
     go false false b true false false h = h
     go false false b false false false h = h
 
+-- so is an RGB destination
+pub rgb-picture : (d : ℕ) → isConvertibleRgb d ≡ true → isPicture d ≡ true
+unfolding isPicture isLaneSource
+rgb-picture d h = rw h refl
+
 -- a source of A8R8G8B8 alone converts into that
 pub argb-into : (s d : ℕ) → canConvert s d ≡ true → isArgbSource s ≡ true → d ≡ A8R8G8B8
 unfolding canConvert canConvertUpdate
@@ -47,11 +52,6 @@ argb-into s d h w =
     go false false true e b v x y z h = absurd (false≢true (sym z))
     go false true p e b v x y z h = absurd (false≢true (sym y))
     go true k p e b v x y z h = absurd (false≢true (sym x))
-
--- so is an RGB destination
-pub rgb-picture : (d : ℕ) → isConvertibleRgb d ≡ true → isPicture d ≡ true
-unfolding isPicture isLaneSource
-rgb-picture d h = rw h refl
 
 -- ---- an empty region
 none-empty : (r : ConvertRegion) → isEmpty r ≡ true → (z row col : ℕ) → InRegion r z row col → ⊥
