@@ -1,12 +1,16 @@
 //! Usage: bench [--markdown FILE] [WORD..]
-//! Measures conversions and depth transfers of a 4096 x 2160 frame and splats of as many 4-byte
-//! texels, in nanoseconds a texel, on one thread: every work, or those whose name has one of the
-//! words. Each row of the table is one piece of work and each column a route that does it; `ours`,
-//! and its ratio to the original, stand where the port is linked, and `memcpy` copies as many
-//! bytes as the work writes. The original has no number where it refuses. A number is the median of
-//! rounds in which the routes take turns, so that a slow moment of the machine falls on all of
-//! them. With --markdown the table is also written to FILE, which keeps what it has from its first
-//! line `## ..` on.
+//! Measures conversions and depth transfers of a 4096 x 2160 frame, conversions of as many texels
+//! in rows of 16, and splats of as many 4-byte texels, in nanoseconds a texel, on one thread: every
+//! work, or those whose name has one of the words. Among the conversions is every pair of RGB
+//! formats, a format to itself too. Each row of the table is one piece of work and each column a
+//! route that does it; `ours`, and its ratio to the original, stand where the port is linked, and
+//! `memcpy` copies as many bytes as the work writes. The original has no number where it refuses. A
+//! number is the median of rounds in which the routes take turns, so that a slow moment of the
+//! machine falls on all of them. Below the table stand the bars whose works were all measured: the
+//! greatest ratio that is wanted of ours to another route, the worst that was measured, and of
+//! which work. They do not change the exit status. With --markdown all this is also written to
+//! FILE, the RGB pairs as a table of sources and destinations; FILE keeps what it has from its
+//! first line `## ..` on.
 
 mod common;
 mod paper;
@@ -14,6 +18,8 @@ mod paper;
 mod port;
 
 use std::{
+    collections::HashMap,
+    fmt::Display,
     fs,
     hint::black_box,
     process::ExitCode,
@@ -27,11 +33,14 @@ use original::{
     depth_texture::{PackedDepth, PlaneLayout},
     pixel_convert::{ConvertRegion, convert_region},
 };
-use paper::{Format, Kind, named};
+use paper::{FORMATS, Format, Kind, named};
 
 const WIDTH: u32 = 4096;
 const HEIGHT: u32 = 2160;
 const TEXELS: usize = WIDTH as usize * HEIGHT as usize;
+
+/// The texels of a short row.
+const SHORT: u32 = 16;
 
 /// A work is repeated at least this often, and for at least this time.
 const ROUNDS: usize = 9;
@@ -44,23 +53,18 @@ const COLUMNS: &[&str] = if cfg!(port) {
     &["original", "memcpy"]
 };
 
-/// Source and destination of each conversion.
-const CONVERSIONS: [(&str, &str); 27] = [
-    ("A8R8G8B8", "X8R8G8B8"),
-    ("A8R8G8B8", "A8B8G8R8"),
-    ("A8R8G8B8", "R8G8B8"),
-    ("A8R8G8B8", "R5G6B5"),
-    ("A8R8G8B8", "A1R5G5B5"),
-    ("A8R8G8B8", "A4R4G4B4"),
-    ("A8R8G8B8", "L8"),
-    ("A8R8G8B8", "A8"),
-    ("X8B8G8R8", "A8L8"),
-    ("R8G8B8", "X8R8G8B8"),
-    ("R5G6B5", "A8R8G8B8"),
-    ("X1R5G5B5", "R5G6B5"),
-    ("A4R4G4B4", "A8B8G8R8"),
-    ("L8", "A8R8G8B8"),
-    ("A8L8", "A8R8G8B8"),
+/// What stands of an RGB pair in the markdown.
+const PAIR_CELL: &str = if cfg!(port) {
+    "ours, and in brackets its ratio to the original"
+} else {
+    "the original"
+};
+
+/// The names of a source and a destination.
+type Pair = (&'static str, &'static str);
+
+/// The conversions of a frame besides those from RGB to RGB.
+const CONVERSIONS: [Pair; 12] = [
     ("YUY2", "A8R8G8B8"),
     ("UYVY", "R5G6B5"),
     ("NV12", "A8R8G8B8"),
@@ -75,6 +79,20 @@ const CONVERSIONS: [(&str, &str); 27] = [
     ("Q8W8V8U8", "A8R8G8B8"),
 ];
 
+/// The conversions in short rows.
+const SHORT_CONVERSIONS: [Pair; 10] = [
+    ("A8R8G8B8", "X8R8G8B8"),
+    ("A8R8G8B8", "A8B8G8R8"),
+    ("A8R8G8B8", "R5G6B5"),
+    ("A8R8G8B8", "R8G8B8"),
+    ("A8R8G8B8", "L8"),
+    ("R5G6B5", "A8R8G8B8"),
+    ("R8G8B8", "X8R8G8B8"),
+    ("X1R5G5B5", "R5G6B5"),
+    ("A16B16G16R16", "A8R8G8B8"),
+    ("A32B32G32R32F", "A8R8G8B8"),
+];
+
 /// The packed depth formats, each unpacked and packed.
 const DEPTHS: [(&str, u32); 3] = [
     ("D16", paper::D16),
@@ -84,6 +102,59 @@ const DEPTHS: [(&str, u32); 3] = [
 
 /// Bytes of the patterns that are splatted.
 const PATTERNS: [usize; 6] = [1, 2, 3, 4, 8, 16];
+
+/// The greatest ratio of ours to another route that is wanted of some works.
+struct Bar {
+    works: &'static str,
+    concerns: fn(&Work) -> bool,
+    route: &'static str,
+    limit: f64,
+}
+
+const BARS: [Bar; 5] = [
+    Bar {
+        works: "every RGB pair",
+        concerns: |work| work.rgb_pair().is_some(),
+        route: "original",
+        limit: 0.2,
+    },
+    Bar {
+        works: "A8R8G8B8 to X8R8G8B8 and A8B8G8R8, to and from R5G6B5",
+        concerns: |work| {
+            work.is_frame_of(&[
+                ("A8R8G8B8", "X8R8G8B8"),
+                ("A8R8G8B8", "A8B8G8R8"),
+                ("A8R8G8B8", "R5G6B5"),
+                ("R5G6B5", "A8R8G8B8"),
+            ])
+        },
+        route: "memcpy",
+        limit: 1.6,
+    },
+    Bar {
+        works: "A16B16G16R16 and A32B32G32R32F to A8R8G8B8",
+        concerns: |work| {
+            work.is_frame_of(&[("A16B16G16R16", "A8R8G8B8"), ("A32B32G32R32F", "A8R8G8B8")])
+        },
+        route: "original",
+        limit: 0.4,
+    },
+    Bar {
+        works: "depth unpack and pack",
+        concerns: |work| matches!(work, Work::Unpack(..) | Work::Pack(..)),
+        route: "original",
+        limit: 0.5,
+    },
+    Bar {
+        works: "rows of 16 texels",
+        concerns: |work| matches!(work, Work::Convert(_, _, SHORT)),
+        route: "original",
+        limit: 0.4,
+    },
+];
+
+/// The titles of what is told of a bar.
+const BAR_COLUMNS: [&str; 5] = ["bar", "limit", "worst", "of", "met"];
 
 fn main() -> ExitCode {
     let mut words: Vec<String> = std::env::args().skip(1).collect();
@@ -95,8 +166,9 @@ fn main() -> ExitCode {
     }
     println!("{}", heading());
     let table = table(&words);
+    let bars = bars(&table);
     if let Some(file) = file.flatten()
-        && let Err(error) = write_markdown(&file, &table)
+        && let Err(error) = write_markdown(&file, &table, &bars)
     {
         eprintln!("bench: {file}: {error}");
         return ExitCode::FAILURE;
@@ -114,23 +186,24 @@ fn heading() -> String {
 /// A number for each of COLUMNS; none where a route refuses.
 type Numbers = Vec<Option<f64>>;
 
-/// A name and its numbers.
-type Row = (String, Numbers);
+/// A work and its numbers.
+type Row = (Work, Numbers);
 
 /// Does the works that are asked for and prints each as it is done.
 fn table(words: &[String]) -> Vec<Row> {
     let mut rows = Vec::new();
     let titles: String = COLUMNS.iter().map(|name| format!("{name:>15}")).collect();
-    println!("{:30}{titles}", "");
-    for (name, work) in works() {
+    println!("{:40}{titles}", "");
+    for work in works() {
+        let name = work.name();
         if words.is_empty() || words.iter().any(|word| name.contains(word)) {
-            let numbers = work();
+            let numbers = work.measure();
             let cells: String = numbers
                 .iter()
                 .map(|it| format!("{:>15}", cell(*it)))
                 .collect();
-            println!("{name:30}{cells}");
-            rows.push((name, numbers));
+            println!("{name:40}{cells}");
+            rows.push((work, numbers));
         }
     }
     rows
@@ -140,27 +213,122 @@ fn cell(number: Option<f64>) -> String {
     number.map_or("-".to_string(), |it| format!("{it:.2}"))
 }
 
-/// A name, and what measures it.
-type Work = (String, Box<dyn Fn() -> Numbers>);
+/// The number in the column of that title; none where there is no such column.
+fn number(numbers: &Numbers, title: &str) -> Option<f64> {
+    let at = COLUMNS.iter().position(|column| *column == title)?;
+    numbers[at]
+}
 
+/// A cell for each of BAR_COLUMNS.
+type BarRow = [String; BAR_COLUMNS.len()];
+
+/// Tells the bars whose works were all measured, and prints them.
+fn bars(table: &[Row]) -> Vec<BarRow> {
+    let rows: Vec<BarRow> = BARS.iter().filter_map(|bar| bar.row(table)).collect();
+    if !rows.is_empty() {
+        println!();
+        print_bar(&BAR_COLUMNS);
+        rows.iter().for_each(print_bar);
+    }
+    rows
+}
+
+fn print_bar([bar, limit, worst, of, met]: &[impl Display; BAR_COLUMNS.len()]) {
+    println!("{bar:70}{limit:>6}{worst:>8}  {of:40}{met}");
+}
+
+impl Bar {
+    /// What is told of the bar; none unless each of its works has a ratio.
+    fn row(&self, table: &[Row]) -> Option<BarRow> {
+        let wanted = works().iter().filter(|work| (self.concerns)(work)).count();
+        let ratios: Vec<(f64, String)> = table
+            .iter()
+            .filter(|(work, _)| (self.concerns)(work))
+            .filter_map(|(work, numbers)| Some((self.ratio(numbers)?, work.name())))
+            .collect();
+        if ratios.len() < wanted {
+            return None;
+        }
+        let (worst, of) = ratios.into_iter().max_by(|a, b| a.0.total_cmp(&b.0))?;
+        Some([
+            format!("{}: ours/{}", self.works, self.route),
+            self.limit.to_string(),
+            format!("{worst:.3}"),
+            of,
+            if worst <= self.limit { "yes" } else { "no" }.to_string(),
+        ])
+    }
+
+    fn ratio(&self, numbers: &Numbers) -> Option<f64> {
+        Some(number(numbers, "ours")? / number(numbers, self.route)?)
+    }
+}
+
+/// A piece of work.
+enum Work {
+    /// From a format to another, in rows of so many texels.
+    Convert(&'static Format, &'static Format, u32),
+    /// Of a depth format's name and code.
+    Unpack(&'static str, u32),
+    Pack(&'static str, u32),
+    /// Of a pattern of so many bytes.
+    Splat(usize),
+}
+
+impl Work {
+    fn name(&self) -> String {
+        match self {
+            Self::Convert(from, to, WIDTH) => format!("{} to {}", from.name, to.name),
+            Self::Convert(from, to, row) => format!("{} to {}, rows of {row}", from.name, to.name),
+            Self::Unpack(name, _) => format!("{name} unpack"),
+            Self::Pack(name, _) => format!("{name} pack"),
+            Self::Splat(length) => format!("splat of {length}"),
+        }
+    }
+
+    fn measure(&self) -> Numbers {
+        match *self {
+            Self::Convert(from, to, row) => convert(from, to, row),
+            Self::Unpack(_, code) => unpack(code),
+            Self::Pack(_, code) => pack(code),
+            Self::Splat(length) => splat(length),
+        }
+    }
+
+    /// The names of source and destination where a frame goes from RGB to RGB.
+    fn rgb_pair(&self) -> Option<Pair> {
+        match self {
+            Self::Convert(from, to, WIDTH) if from.kind == Kind::Rgb && to.kind == Kind::Rgb => {
+                Some((from.name, to.name))
+            }
+            _ => None,
+        }
+    }
+
+    /// Whether a frame goes from the source to the destination of one of the pairs.
+    fn is_frame_of(&self, pairs: &[Pair]) -> bool {
+        matches!(self, Self::Convert(from, to, WIDTH) if pairs.contains(&(from.name, to.name)))
+    }
+}
+
+/// All that can be measured, in the order of the table.
 fn works() -> Vec<Work> {
-    let mut works: Vec<Work> = Vec::new();
-    for (from, to) in CONVERSIONS {
-        let (source, destination) = (named(from), named(to));
-        let work = move || convert(source, destination);
-        works.push((format!("{from} to {to}"), Box::new(work)));
+    let convert = |(from, to), row| Work::Convert(named(from), named(to), row);
+    let mut works = Vec::new();
+    for from in rgb_formats() {
+        works.extend(rgb_formats().map(|to| Work::Convert(from, to, WIDTH)));
     }
+    works.extend(CONVERSIONS.map(|pair| convert(pair, WIDTH)));
+    works.extend(SHORT_CONVERSIONS.map(|pair| convert(pair, SHORT)));
     for (name, code) in DEPTHS {
-        works.push((format!("{name} unpack"), Box::new(move || unpack(code))));
-        works.push((format!("{name} pack"), Box::new(move || pack(code))));
+        works.extend([Work::Unpack(name, code), Work::Pack(name, code)]);
     }
-    for length in PATTERNS {
-        works.push((
-            format!("splat of {length}"),
-            Box::new(move || splat(length)),
-        ));
-    }
+    works.extend(PATTERNS.map(Work::Splat));
     works
+}
+
+fn rgb_formats() -> impl Iterator<Item = &'static Format> {
+    FORMATS.iter().filter(|format| format.kind == Kind::Rgb)
 }
 
 /// The routes of one work, in the order of COLUMNS; none in the place of one that refuses.
@@ -226,10 +394,12 @@ fn frame(format: &Format) -> Vec<u8> {
     }
 }
 
-fn convert(from: &Format, to: &Format) -> Numbers {
+/// Converts a frame's texels that lie in rows of `row`.
+fn convert(from: &Format, to: &Format, row: u32) -> Numbers {
     let src = &frame(from);
-    let width = WIDTH as usize;
-    let region = whole_frame(WIDTH, HEIGHT, width * from.bytes, width * to.bytes);
+    let width = row as usize;
+    let height = (TEXELS / width) as u32;
+    let region = whole_frame(row, height, width * from.bytes, width * to.bytes);
     let length = TEXELS * to.bytes;
     let (mut dst, originals) = (vec![0; length], ConvertRegion::from(&region));
     let routes = if paper::is_added(from.code, to.code) {
@@ -356,26 +526,81 @@ fn splat(pattern: usize) -> Numbers {
     routes.measure(4 * TEXELS)
 }
 
-/// Writes the table above what `path` has from its first heading of the second rank on.
-fn write_markdown(path: &str, table: &[Row]) -> std::io::Result<()> {
+/// Writes the tables above what `path` has from its first heading of the second rank on.
+fn write_markdown(path: &str, table: &[Row], bars: &[BarRow]) -> std::io::Result<()> {
     let old = fs::read_to_string(path).unwrap_or_default();
     let kept = old.find("\n## ").map_or("", |at| &old[at..]);
-    let mut text = format!(
-        "# Benchmarks\n\n{}. {}. `memcpy` copies as many bytes as the work writes; a splat's texel \
-         has 4 bytes.\n\n| work | {} |\n|---|{}\n",
+    let text = format!(
+        "# Benchmarks\n\n{}. {}. `memcpy` copies as many bytes as the work writes; rows of {SHORT} \
+         are a region of {SHORT} x {} texels; a splat's texel has 4 bytes.\n",
         heading(),
         machine(),
-        COLUMNS.join(" | "),
-        "---:|".repeat(COLUMNS.len())
+        TEXELS / SHORT as usize
     );
-    for (name, numbers) in table {
-        let cells: String = numbers
-            .iter()
-            .map(|it| format!(" {} |", cell(*it)))
-            .collect();
-        text += &format!("| {name} |{cells}\n");
+    let bars = markdown_table(&BAR_COLUMNS, bars.iter().map(|row| row.to_vec()).collect());
+    fs::write(
+        path,
+        text + &matrix(table) + &other_works(table) + &bars + kept,
+    )
+}
+
+/// The RGB pairs that were measured: a row for each source and a column for each destination.
+fn matrix(table: &[Row]) -> String {
+    let cells: HashMap<Pair, String> = table
+        .iter()
+        .filter_map(|(work, numbers)| Some((work.rgb_pair()?, pair_cell(numbers))))
+        .collect();
+    if cells.is_empty() {
+        return String::new();
     }
-    fs::write(path, text + kept)
+    let names = || rgb_formats().map(|format| format.name);
+    let sources = names().filter(|name| cells.keys().any(|(from, _)| from == name));
+    let destinations: Vec<&'static str> = names()
+        .filter(|name| cells.keys().any(|(_, to)| to == name))
+        .collect();
+    let row = |from| {
+        let cell = |to: &&'static str| cells.get(&(from, *to)).cloned().unwrap_or_default();
+        let cells = destinations.iter().map(cell);
+        [from.to_string()].into_iter().chain(cells).collect()
+    };
+    let rows = sources.map(row).collect();
+    format!("\nFrom the RGB format of a row to that of a column: {PAIR_CELL}.\n")
+        + &markdown_table(&[&[""], &destinations[..]].concat(), rows)
+}
+
+/// The numbers that PAIR_CELL tells of.
+fn pair_cell(numbers: &Numbers) -> String {
+    let cell = |title| cell(number(numbers, title));
+    if cfg!(port) {
+        format!("{} ({})", cell("ours"), cell("ours/original"))
+    } else {
+        cell("original")
+    }
+}
+
+/// The works that are no RGB pair.
+fn other_works(table: &[Row]) -> String {
+    let rows = table
+        .iter()
+        .filter(|(work, _)| work.rgb_pair().is_none())
+        .map(|(work, numbers)| {
+            let cells = numbers.iter().map(|it| cell(*it));
+            [work.name()].into_iter().chain(cells).collect()
+        });
+    markdown_table(&[&["work"], COLUMNS].concat(), rows.collect())
+}
+
+/// A table after an empty line; nothing where there is no row.
+fn markdown_table(titles: &[&str], rows: Vec<Vec<String>>) -> String {
+    if rows.is_empty() {
+        return String::new();
+    }
+    let rule = "---:|".repeat(titles.len() - 1);
+    let rows: String = rows
+        .iter()
+        .map(|row| format!("| {} |\n", row.join(" | ")))
+        .collect();
+    format!("\n| {} |\n|---|{rule}\n{rows}", titles.join(" | "))
 }
 
 /// The processor's model and the number of its cores.

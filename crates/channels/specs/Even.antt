@@ -1,18 +1,19 @@
 -- A fraction n / d rounded to the nearest whole number, a tie to the even one: `closest` of the library on IEEE 754 in inequalities, as the one
--- number that the predicate NearestEven has, and as a shift computes it.
+-- number that the predicate NearestEven has, and as a shift computes it; and where `rounded`, a half up, is the same number.
 -- Assumes nothing.
 use mathlib.Core.Path.{_≡_, refl, sym, ap, _∙_, subst}
 use mathlib.Core.Logic.{_⊎_, inl, inr}
 use mathlib.Core.Bool.{not}
-use Prim.Native.Nat.{ℕ, zero, suc, _+_, _-_, _*_, _/_, _%_, _≤_, _<_, compare, Ordering, Ordering·lt, Ordering·eq, Ordering·gt}
-use native.Mathlib.Nat.{le-of-eq, lt-irrefl, lt-trans, mod-lt, div-add-mod', suc-mul}
+use Prim.Native.Nat.{ℕ, zero, suc, _+_, _-_, _*_, _/_, _%_, _^_, _≤_, _<_, compare, Ordering, Ordering·lt, Ordering·eq, Ordering·gt}
+use native.Mathlib.Nat.{le-of-eq, le-of-lt, lt-irrefl, lt-trans, mod-lt, div-add-mod', suc-mul, mul-assoc, mul-left-comm, mul-mod-right, pow-succ'}
 use native.Mathlib.Numerals.{add-one}
 use native.Mathlib.Omega.{arith}
 use lib.Dec.{T, isLe, isEq, eqb, leb→le, nleb→lt, eqb→eq, eqb-refl}
 use lib.Arith.{lt-of-le-ne, digits-div}
+use lib.Pow.{pow-pos}
 use lib.Ieee.{nearest}
 use lib.Ieee.Nearest.{closest}
-use Rattle.channels.specs.Nearest.{apart, NearestEven, step, within-half}
+use Rattle.channels.specs.Nearest.{apart, NearestEven, step, within-half, rounded, rounded-below, rounded-above}
 use Rattle.words.specs.Tests.{split}
 
 -- ---- what `compare` says
@@ -142,3 +143,42 @@ closest-added n h H =
     let d = 2 * h in
     ap (λ x. (x + (h - 1) + n / d % 2) / d) (sym (div-add-mod' n d))
     ∙ by-order (n / d) (n % d) d h (n / d % 2) refl H (mod-lt n {m = d} (omega arith)) refl (compare (n % d * 2) d) (cmp (n % d * 2) d)
+
+-- ---- a half up is the same where it goes to an even number
+pub closest-up : (n d : ℕ) → 0 < d → (2 * (rounded n d * d) ≡ 2 * n + d → rounded n d % 2 ≡ 0) → rounded n d ≡ closest n d
+closest-up n d D even =
+    only-closest n d (rounded n d) D
+    (within-half (λ j q. j % 2 ≡ 1) n d (rounded n d) D (rounded-below n d) (le-of-lt (rounded-above n d D))
+    (λ j e t. odd-before j (rounded n d) e (even t)) (λ j e t. absurd (omega (arith, rounded-above n d D))))
+
+-- where a product is even and one factor odd, the other is even
+half-left : (m a x : ℕ) → a % 2 ≡ 1 → m * a ≡ 2 * x → m / 2 * a ≡ x
+half-left m a x o e = elim (split (m % 2) 1) [
+  | inl l ↦
+      let p : m ≡ 2 * (m / 2) = omega arith in
+      omega (arith, ap (λ z. z * a) p ∙ mul-assoc 2 (m / 2) a)
+  | inr l ↦
+      let p : m ≡ suc (2 * (m / 2)) = omega arith in
+      absurd (omega (arith, ap (λ z. z * a) p ∙ suc-mul (2 * (m / 2)) a, mul-assoc 2 (m / 2) a))
+]
+
+doubled : (q k : ℕ) → q * 2 ^ suc k ≡ 2 * (q * 2 ^ k)
+doubled q k = ap (λ z. q * z) (pow-succ' 2 k) ∙ mul-left-comm q 2 (2 ^ k)
+
+-- where m / 2 ^ (k + 1), at most one, times max is q less a half, m / 2 ^ (k + 1) is a half and q is half of max + 1
+tie-even : (k m max q : ℕ) → max % 4 ≡ 3 → m ≤ 2 ^ suc k → m * max + 2 ^ k ≡ 2 * (q * 2 ^ k) → q % 2 ≡ 0
+tie-even zero zero max q o l e = absurd (omega arith)
+tie-even zero (suc zero) max q o l e = let p : q ≡ 2 * (max / 4 + 1) = omega arith in ap (λ z. z % 2) p ∙ mul-mod-right 2 (max / 4 + 1)
+tie-even zero (suc (suc zero)) max q o l e = absurd (omega arith)
+tie-even zero (suc (suc (suc m))) max q o l e = absurd (omega arith)
+tie-even (suc k) m max q o l e =
+    tie-even k (m / 2) max q o (omega (arith, pow-succ' 2 (suc k)))
+    (omega (arith, half-left m max (2 * (q * 2 ^ k) - 2 ^ k) (omega arith) (omega (arith, pow-succ' 2 k, doubled q k)), pow-pos k, doubled q k, pow-succ' 2 k))
+
+-- THE LAW OF THE TIES: on a scale with max % 4 ≡ 3, m / 2 ^ s of at most one has one code, whether a half goes up or to the even number
+pub alike : (m s max : ℕ) → m ≤ 2 ^ s → max % 4 ≡ 3 → rounded (m * max) (2 ^ s) ≡ closest (m * max) (2 ^ s)
+alike m zero max l o = closest-up (m * max) 1 (omega arith) (λ t. absurd (omega arith))
+alike m (suc k) max l o =
+    let q = rounded (m * max) (2 ^ suc k) in
+    closest-up (m * max) (2 ^ suc k) (pow-pos (suc k))
+    (λ t. tie-even k m max q o l (omega (arith, t, pow-succ' 2 k, doubled q k)))

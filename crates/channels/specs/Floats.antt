@@ -1,30 +1,42 @@
 -- A binary32 number clamped to 0..1 as a fraction, and what its bit pattern says of that fraction.
 -- Assumes nothing.
 use mathlib.Core.Path.{_≡_, refl, sym, ap, _∙_, subst}
-use mathlib.Core.Logic.{inl, inr}
+use mathlib.Core.Logic.{inl, inr, ⊎-elim}
 use Prim.Native.Nat.{ℕ, zero, suc, _+_, _-_, _*_, _/_, _%_, _^_, _≤_, _<_, min, zero-le}
 use native.Mathlib.Nat.{le-refl, le-trans, le-of-eq, le-of-lt, eq-or-lt-of-le, lt-of-lt-of-le, not-le-of-lt, zero-lt-suc, mul-one, mul-comm, mul-assoc, mul-right-comm, mul-le-mul-right, mul-lt-mul-of-pos-right, mul-le-mul, lt-of-mul-lt-mul-right, le-of-mul-le-mul-right, eq-of-mul-eq-mul-right, min-eq-left, min-eq-right, min-le-right, mod-eq-of-lt}
 use native.Mathlib.Omega.{arith}
 use mathlib.Core.Bool.{Bool, true, false, cond, true≢false}
 use lib.Dec.{T, leb, eqb, leb→le, le→leb, lt→ltb, eqb→eq, not-T}
 use lib.Pow.{pow-add, pow-pos, pow-mono, shl-lt}
+use lib.IntN.{pos, negsuc}
 use lib.Ieee.{Float, nan, inf, fin, binary32, up, down, odd, ofFields, ofBits, isNan}
 use lib.Ieee.Fits.{down-pos}
 use lib.Ieee.Bits.{is-true, is-false, cond-no, nanBits-is, nanBits-above}
 use lib.Ieee.Exact.{HasValue, odd-sign}
 use Rattle.channels.specs.Fractions.{Fraction, _over_}
+use Rattle.words.specs.Tests.{split}
 
 -- the number clamped to 0..1: a NaN and what is negative are 0, what is above one is 1
 abbrev pub clamped : Float → Fraction
 clamped nan = 0 over 1
 clamped (inf s) = cond s 0 1 over 1
-clamped (fin s m e) = cond s 0 (min (m * up e) (down e)) over down e
+clamped (fin true m e) = 0 over 1
+clamped (fin false m e) = min (m * up e) (down e) over down e
 
 -- ---- the fraction
 pub bottom-pos : (x : Float) → 0 < clamped x .bottom
 bottom-pos nan = zero-lt-suc 0
 bottom-pos (inf s) = zero-lt-suc 0
-bottom-pos (fin s m e) = down-pos e
+bottom-pos (fin true m e) = zero-lt-suc 0
+bottom-pos (fin false m e) = down-pos e
+
+-- the bottom is a power of two
+pub bottom-power : (x : Float) → (s : ℕ) × (clamped x .bottom ≡ 2 ^ s)
+bottom-power nan = (0, refl)
+bottom-power (inf s) = (0, refl)
+bottom-power (fin true m e) = (0, refl)
+bottom-power (fin false m (pos k)) = (0, refl)
+bottom-power (fin false m (negsuc k)) = (suc k, refl)
 
 pub top-le : (x : Float) → clamped x .top ≤ clamped x .bottom
 top-le nan = zero-le
@@ -89,37 +101,45 @@ digits b = omega arith
 
 -- ---- by the range in which a pattern lies
 -- a sign: 0
-top-odd : (d q k l : ℕ) → clamped (odd d true q k l) .top ≡ 0
+sign-odd : (d q k l : ℕ) → clamped (odd d true q k l) ≡ 0 over 1
 unfolding odd
-top-odd d zero k l = refl
-top-odd d (suc q) k l = refl
+sign-odd d zero k l = refl
+sign-odd d (suc q) k l = refl
 
-top-cond : (a b : Bool) (x : Float) → clamped x .top ≡ 0 → clamped (cond a (cond b (inf true) nan) x) .top ≡ 0
-top-cond true true x h = refl
-top-cond true false x h = refl
-top-cond false b x h = h
+sign-cond : (a b : Bool) (x : Float) → clamped x ≡ 0 over 1 → clamped (cond a (cond b (inf true) nan) x) ≡ 0 over 1
+sign-cond true true x h = refl
+sign-cond true false x h = refl
+sign-cond false b x h = h
 
-top-fields : (x t : ℕ) → clamped (ofFields binary32 true x t) .top ≡ 0
+sign-fields : (x t : ℕ) → clamped (ofFields binary32 true x t) ≡ 0 over 1
 unfolding ofFields
-top-fields zero t = top-odd 24 t 0 149
-top-fields (suc x) t = top-cond (eqb (suc x) 255) (eqb t 0) (odd 24 true (8388608 + t) x 149) (top-odd 24 (8388608 + t) x 149)
+sign-fields zero t = sign-odd 24 t 0 149
+sign-fields (suc x) t = sign-cond (eqb (suc x) 255) (eqb t 0) (odd 24 true (8388608 + t) x 149) (sign-odd 24 (8388608 + t) x 149)
 
-pub negative-pattern : (b : ℕ) → 2147483648 ≤ b → clamped (ofBits binary32 b) .top ≡ 0
+pub negative-pattern : (b : ℕ) → 2147483648 ≤ b → clamped (ofBits binary32 b) ≡ 0 over 1
 negative-pattern b h =
-    ap (λ x. clamped x .top) (ofBits-is b ∙ ap (λ (s : Bool). ofFields binary32 s (b % 2147483648 / 8388608) (b % 8388608)) (is-true (leb 2147483648 b) (le→leb 2147483648 b h)))
-    ∙ top-fields (b % 2147483648 / 8388608) (b % 8388608)
+    ap clamped (ofBits-is b ∙ ap (λ (s : Bool). ofFields binary32 s (b % 2147483648 / 8388608) (b % 8388608)) (is-true (leb 2147483648 b) (le→leb 2147483648 b h)))
+    ∙ sign-fields (b % 2147483648 / 8388608) (b % 8388608)
 
 -- a NaN: 0
-pub top-nan : (x : Float) → T (isNan x) → clamped x .top ≡ 0
+pub nan-clamped : (x : Float) → T (isNan x) → clamped x ≡ 0 over 1
 unfolding isNan
-top-nan nan t = refl
-top-nan (inf s) t = absurd t
-top-nan (fin s m e) t = absurd t
+nan-clamped nan t = refl
+nan-clamped (inf s) t = absurd t
+nan-clamped (fin s m e) t = absurd t
 
-pub nan-pattern : (b : ℕ) → 2139095040 < b → b < 2147483648 → clamped (ofBits binary32 b) .top ≡ 0
+pub nan-pattern : (b : ℕ) → 2139095040 < b → b < 2147483648 → clamped (ofBits binary32 b) ≡ 0 over 1
 nan-pattern b h k =
-    top-nan (ofBits binary32 b)
+    nan-clamped (ofBits binary32 b)
     (subst T (nanBits-is binary32 b) (subst T (sym (nanBits-above binary32 b)) (lt→ltb 2139095040 (b % 2147483648) (subst (λ (z : ℕ). 2139095040 < z) (sym (mod-eq-of-lt k)) h))))
+
+-- either, beside the pattern 0
+pub zero-clamped : clamped (ofBits binary32 0) ≡ 0 over 1
+unfolding ofBits ofFields odd
+zero-clamped = refl
+
+pub as-zero : (b : ℕ) → 2139095040 < b → clamped (ofBits binary32 0) ≡ clamped (ofBits binary32 b)
+as-zero b h = zero-clamped ∙ sym (⊎-elim (nan-pattern b h) (negative-pattern b) (split b 2147483648))
 
 -- one and above, the infinity too: 1
 infinity : ofBits binary32 2139095040 ≡ inf false
@@ -153,8 +173,8 @@ high-pattern b h k = elim (eq-or-lt-of-le k) [
   | inr l ↦ finite-pattern b h l
 ]
 
--- normal and below one: the significand over a power of two
-pub normal-pattern : (b : ℕ) → 8388608 ≤ b → b < 1065353216
+-- normal and at most one: the significand over a power of two
+pub normal-pattern : (b : ℕ) → 8388608 ≤ b → b ≤ 1065353216
     → clamped (ofBits binary32 b) .top * 2 ^ (150 - b / 8388608) ≡ (8388608 + b % 8388608) * clamped (ofBits binary32 b) .bottom
 normal-pattern b h k =
     let x = b / 8388608 - 1 in
@@ -163,24 +183,29 @@ normal-pattern b h k =
     let u = clamped (ofBits binary32 b) .bottom in
     let m = 8388608 + b % 8388608 in
     let E : t * 2 ^ 149 ≡ m * 2 ^ x * u =
-    below-one (ofBits binary32 b) (m * 2 ^ x) (2 ^ 149) (normal b x (field b h) (low b h k) (signless b k)) (pow-pos 149)
-    (le-of-lt (lt-of-lt-of-le (shl-lt 24 x (digits b)) (pow-mono (cap b h k)))) in
+    below-one (ofBits binary32 b) (m * 2 ^ x) (2 ^ 149) (normal b x (field b h) (low b h k) (signless b k)) (pow-pos 149) (most b h k) in
     eq-of-mul-eq-mul-right (2 ^ x) (pow-pos x) (t * 2 ^ s) (m * u)
     (mul-assoc t (2 ^ s) (2 ^ x) ∙ ap (λ (z : ℕ). t * z) (sym (pow-add 2 s x) ∙ ap (λ (z : ℕ). 2 ^ z) (whole b h k)) ∙ E ∙ mul-right-comm m (2 ^ x) u)
   where
     field : (b : ℕ) → 8388608 ≤ b → b / 8388608 ≡ suc (b / 8388608 - 1)
     field b h = omega arith
 
-    low : (b : ℕ) → 8388608 ≤ b → b < 1065353216 → suc (b / 8388608 - 1) < 255
+    low : (b : ℕ) → 8388608 ≤ b → b ≤ 1065353216 → suc (b / 8388608 - 1) < 255
     low b h k = omega arith
 
-    signless : (b : ℕ) → b < 1065353216 → b < 2147483648
+    signless : (b : ℕ) → b ≤ 1065353216 → b < 2147483648
     signless b k = omega arith
 
     cap : (b : ℕ) → 8388608 ≤ b → b < 1065353216 → 24 + (b / 8388608 - 1) ≤ 149
     cap b h k = omega arith
 
-    whole : (b : ℕ) → 8388608 ≤ b → b < 1065353216 → 150 - b / 8388608 + (b / 8388608 - 1) ≡ 149
+    most : (b : ℕ) → 8388608 ≤ b → b ≤ 1065353216 → (8388608 + b % 8388608) * 2 ^ (b / 8388608 - 1) ≤ 2 ^ 149
+    most b h k = elim (eq-or-lt-of-le k) [
+      | inl e ↦ subst (λ (z : ℕ). (8388608 + z % 8388608) * 2 ^ (z / 8388608 - 1) ≤ 2 ^ 149) (sym e) (le-of-eq (sym (pow-add 2 23 126)))
+      | inr l ↦ le-of-lt (lt-of-lt-of-le (shl-lt 24 (b / 8388608 - 1) (digits b)) (pow-mono (cap b h l)))
+    ]
+
+    whole : (b : ℕ) → 8388608 ≤ b → b ≤ 1065353216 → 150 - b / 8388608 + (b / 8388608 - 1) ≡ 149
     whole b h k = omega arith
 
 -- below the power of two with the exponent's field t, which is 2 ^ (t - 127)

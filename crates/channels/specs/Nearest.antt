@@ -3,7 +3,7 @@
 use mathlib.Core.Path.{_≡_, sym, ap, _∙_, subst}
 use mathlib.Core.Logic.{_⊎_, inl, inr}
 use Prim.Native.Nat.{ℕ, suc, _+_, _-_, _*_, _/_, _%_, _≤_, _<_}
-use native.Mathlib.Nat.{le-trans, le-of-eq, le-of-lt, lt-irrefl, suc-mul, mul-comm, mul-assoc, mul-left-comm, mul-right-comm, add-mul, mul-le-mul-right, eq-of-mul-eq-mul-right, div-mul-le-self, lt-div-mul-add, div-div-eq-div-mul, div-eq-of-lt, mul-div-mul-right, mul-add-div-right}
+use native.Mathlib.Nat.{le-trans, le-of-eq, le-of-lt, lt-irrefl, suc-mul, mul-comm, mul-assoc, mul-left-comm, mul-right-comm, mul-add, add-mul, mul-le-mul-right, eq-of-mul-eq-mul-right, div-mul-le-self, lt-div-mul-add, div-div-eq-div-mul, div-eq-of-lt, add-div-right, mul-div-mul-left, mul-div-mul-right, mul-add-div-right}
 use native.Mathlib.Omega.{arith}
 use Rattle.words.specs.Tests.{split}
 use lib.Arith.{lt-of-le-ne}
@@ -116,6 +116,17 @@ unfolding rounded
 rounded-by-half n h =
     let e : (2 * n + (2 * h + 1)) / 2 ≡ n + h = omega arith in
     ap (λ x. x / (2 * h + 1)) (sym e) ∙ div-div-eq-div-mul (2 * n + (2 * h + 1)) 2 (2 * h + 1)
+
+-- an even divisor: one is added to the quotient by its half
+pub rounded-halved : (n h : ℕ) → 0 < h → (n / h + 1) / 2 ≡ rounded n (2 * h)
+unfolding rounded
+rounded-halved n h H =
+    let p : 0 < 2 = omega arith in
+    ap (λ x. x / 2) (sym (add-div-right n H))
+    ∙ div-div-eq-div-mul (n + h) h 2
+    ∙ ap (λ x. (n + h) / x) (mul-comm h 2)
+    ∙ sym (mul-div-mul-left (n + h) (2 * h) p)
+    ∙ ap (λ x. x / (2 * (2 * h))) (mul-add 2 n h)
 
 -- two names of one fraction round alike
 pub rounded-same : (n d m c : ℕ) → 0 < d → 0 < c → n * c ≡ m * d → rounded n d ≡ rounded m c

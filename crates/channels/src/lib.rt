@@ -2,9 +2,10 @@
 // A channel of 4, 5 or 6 bits, or of one, becomes a byte by repeating its bits, and a byte becomes such a channel by dropping
 // its low bits. Other codes are the nearest ones, luminance is a weighted mean, and a binary32 channel is worked out from its
 // bits. specs/ has each as a law over the width, the maximum or the number, with its error: Expansion, Nearest, Luminance,
-// Floats, Exact; Even joins the nearest with a tie to the even one to the way a shift computes it.
+// Floats, Exact; Even joins the nearest with a tie to the even one to the way a shift computes it, and says on which scales
+// a half up is the same.
 ghost use mathlib.Core.Path.{_≡_};
-ghost use Prim.Native.Nat.{_*_, _≤_, _<_, _%_, _^_};
+ghost use Prim.Native.Nat.{_*_, _≤_, _<_, _%_, _^_, min};
 ghost use lib.Ieee.{binary32, ofBits};
 ghost use lib.Ieee.Nearest.{closest};
 ghost use Rattle.channels.specs.Expansion.{expanded, truncated};
@@ -31,24 +32,24 @@ pub fn expand2(v: u32) -> u8
 pub fn expand4(v: u16) -> u8
     ensures { λ r. ⌜ r ≡ expanded 4 (v % 16) ⌝ }
 {
-    let k = (v & 0xf) as u8;
-    (k << 4) | k
+    let k = v & 0xf;
+    ((k << 4) | k) as u8
 }
 
 // The five low bits of a word as a byte: the bits, and the top ones again.
 pub fn expand5(v: u16) -> u8
     ensures { λ r. ⌜ r ≡ expanded 5 (v % 32) ⌝ }
 {
-    let k = (v & 0x1f) as u8;
-    (k << 3) | (k >> 2)
+    let k = v & 0x1f;
+    ((k << 3) | (k >> 2)) as u8
 }
 
 // The six low bits of a word as a byte: the bits, and the top ones again.
 pub fn expand6(v: u16) -> u8
     ensures { λ r. ⌜ r ≡ expanded 6 (v % 64) ⌝ }
 {
-    let k = (v & 0x3f) as u8;
-    (k << 2) | (k >> 4)
+    let k = v & 0x3f;
+    ((k << 2) | (k >> 4)) as u8
 }
 
 // A byte as one bit: whether it is 128 or more.
@@ -167,24 +168,16 @@ pub fn snorm8_to_unorm8(v: u32) -> u8
     nearest_byte(not_negative8(v % 256), 127)
 }
 
-// A sixteen-bit code as the nearest byte. 257 is odd, so there is no tie.
+// A sixteen-bit code as the nearest byte: a product and a shift stand for the division by 257, which is odd, so there is no tie.
 pub fn unorm16_to_unorm8(v: u16) -> u8
     ensures is { λ r. ⌜ r ≡ rounded v 257 ⌝ }
     ensures nearest { λ r. ⌜ Nearest v 257 r ⌝ }
 {
-    (((v as u32) + 128) / 257) as u8
-}
-
-// n / 2^s to the nearest whole number, a half up.
-fn nearest_shifted(n: u64, s: u32) -> u64
-    requires { ⌜ (n < 4611686018427387904) × (s < 62) ⌝ }
-    ensures { λ r. ⌜ r ≡ rounded n (2 ^ s) ⌝ }
-{
-    (n * 2 + (1u64 << s)) >> (s + 1)
+    (((v as u32) * 255 + 32895) / 65536) as u8
 }
 
 // n / 2^s to the nearest whole number, a tie to the even one: a half is added, less one where the quotient is even. Codes of
-// binary16 and of packed depths are rounded so.
+// binary16 are rounded so.
 pub fn nearest_even_shifted(n: u64, s: u32) -> u64
     requires { ⌜ (n < 4611686018427387904) × (0 < s) × (s < 62) ⌝ }
     ensures { λ r. ⌜ r ≡ closest n (2 ^ s) ⌝ }
@@ -194,25 +187,36 @@ pub fn nearest_even_shifted(n: u64, s: u32) -> u64
     (n + (half - 1) + kept % 2) >> s
 }
 
-// A binary32 channel, given by its bits, as the nearest byte, a half up. What is negative and a NaN is 0, and what is one or
-// above, the infinity too, is 255.
+// The lesser of a number and a limit.
+fn at_most(n: u32, limit: u32) -> u32
+    ensures { λ r. ⌜ r ≡ min n limit ⌝ }
+{
+    if n > limit { limit } else { n }
+}
+
+// The pattern of a binary32 number that is not negative: a NaN's pattern and that of what is negative count as 0.
+fn number_bits(bits: u32) -> u32
+    ensures { λ r. ⌜ (bits ≤ 0x7f80_0000 → r ≡ bits) × (0x7f80_0000 < bits → r ≡ 0) ⌝ }
+{
+    if bits > 0x7f80_0000 { 0 } else { bits }
+}
+
+// The code nearest to a binary32 number, given by its bits, on a scale whose top code is max, a half up: 0 for a NaN and what is
+// negative, and max from one on, for the infinity too. Below 2^-31 a shift by 31 leaves nothing of the scaled significand.
+pub fn f32_to_nearest_code(bits: u32, max: u64) -> u32
+    requires { ⌜ max < 16777216 ⌝ }
+    ensures { λ r. ⌜ r ≡ rounded (max * clamped (ofBits binary32 bits) .top) (clamped (ofBits binary32 bits) .bottom) ⌝ }
+{
+    let unit = at_most(number_bits(bits), 0x3f80_0000);
+    let significand = (0x80_0000 + unit % 0x80_0000) as u64;
+    let scaled = (significand * max / 0x40_0000) as u32;
+    ((scaled >> at_most(127 - unit / 0x80_0000, 31)) + 1) / 2
+}
+
+// A binary32 channel, given by its bits, as the nearest byte, a half up.
 pub fn f32_to_unorm8(bits: u32) -> u8
     ensures is { λ r. ⌜ r ≡ rounded (255 * clamped (ofBits binary32 bits) .top) (clamped (ofBits binary32 bits) .bottom) ⌝ }
     ensures nearest { λ r. ⌜ NearestUp (255 * clamped (ofBits binary32 bits) .top) (clamped (ofBits binary32 bits) .bottom) r ⌝ }
 {
-    if bits >= 0x8000_0000 {
-        return 0;
-    }
-    if bits > 0x7f80_0000 {
-        return 0;
-    }
-    if bits >= 0x3f80_0000 {
-        return 255;
-    }
-    // Below 2^-9: less than half a step.
-    if bits < 0x3b00_0000 {
-        return 0;
-    }
-    let significand = 8388608 + (bits % 8388608) as u64;
-    nearest_shifted(255 * significand, 150 - bits / 8388608) as u8
+    f32_to_nearest_code(bits, 255) as u8
 }

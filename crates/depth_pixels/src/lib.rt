@@ -2,7 +2,7 @@
 // specs/ has the codes (Depth), the pixels (Pixels), their bytes (PixelBytes) and pictures of them (Pictures); Restoration shows
 // that packing what was unpacked restores the code.
 // Ported from depth_texture.rs of athei/mtld3d (an altered version, see NOTICE).
-use channels::nearest_even_shifted;
+use channels::f32_to_nearest_code;
 use formats::D3DFMT_D16;
 use formats::D3DFMT_D24S8;
 use formats::D3DFMT_D24X8;
@@ -13,7 +13,7 @@ use words::put32;
 ghost use mathlib.Core.Path.{_≡_};
 ghost use mathlib.Core.Bool.{true, not};
 ghost use mathlib.Core.List.{[]};
-ghost use Prim.Native.Nat.{_+_, _*_, _-_, _≤_, _<_, max};
+ghost use Prim.Native.Nat.{_+_, _*_, _-_, _%_, _≤_, _<_, max};
 ghost use lib.ListN.{length};
 ghost use lib.Seq.{sets};
 ghost use lib.Dec.{T};
@@ -142,30 +142,18 @@ fn decode_d24s8(pixel: &[u8]) -> DepthStencil
     }
 }
 
-// The code of the depth with these bits, where max is the largest code: any pattern will do.
+// The code of the depth with these bits, where max is the largest code: the only tie is at one half, where the upper code is the
+// even one, as max is 3 above a multiple of 4.
 fn code_of_bits(max: u64, bits: u32) -> u64
-    requires { ⌜ max < 16777216 ⌝ }
+    requires { ⌜ (max < 16777216) × (max % 4 ≡ 3) ⌝ }
     ensures { λ r. ⌜ r ≡ codeFor max (ofBits binary32 bits) ⌝ }
 {
-    // A NaN, or negative.
-    if bits > 0x7f80_0000 {
-        return 0;
-    }
-    // One and above, the infinity too.
-    if bits >= 0x3f80_0000 {
-        return max;
-    }
-    // Below 2^-25: less than half a step.
-    if bits < 0x3300_0000 {
-        return 0;
-    }
-    let significand = 0x80_0000 + (bits % 0x80_0000) as u64;
-    nearest_even_shifted(significand * max, 150 - bits / 0x80_0000)
+    f32_to_nearest_code(bits, max) as u64
 }
 
 // The code of a depth.
 fn code_of(max: u64, depth: f32) -> u64
-    requires { ⌜ (max < 16777216) × T (not (isNan depth)) ⌝ }
+    requires { ⌜ (max < 16777216) × (max % 4 ≡ 3) × T (not (isNan depth)) ⌝ }
     ensures { λ r. ⌜ r ≡ codeFor max depth ⌝ }
 {
     code_of_bits(max, f32::to_bits(depth))
@@ -224,14 +212,14 @@ fn store_depth(plane: &mut [u8], at: usize, depth: f32)
     put32(&mut plane[at..], f32::to_bits(depth));
 }
 
-// The depth whose four bytes begin at byte `at` of a depth plane. A NaN's bytes count as 0.
+// The depth whose four bytes begin at byte `at` of a depth plane. A NaN's bytes and those of a negative number count as 0.
 fn load_depth(plane: &[u8], at: usize) -> f32
     requires { ⌜ at + 4 ≤ length (now plane) ⌝ }
     ensures same { λ r. ⌜ clamped r ≡ clamped (depthAt (now (plane .entry)) at) ⌝ }
     ensures number { λ r. ⌜ T (not (isNan r)) ⌝ }
 {
     let bits = le32(&plane[at..]);
-    if bits % 0x8000_0000 > 0x7f80_0000 {
+    if bits > 0x7f80_0000 {
         return 0.0;
     }
     f32::from_bits(bits)

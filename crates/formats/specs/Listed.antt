@@ -1,5 +1,5 @@
 -- Laws of lists of codes, and what they say of the classes of formats. Assumes nothing.
-use mathlib.Core.Path.{_≡_, refl, sym, subst}
+use mathlib.Core.Path.{_≡_, refl, sym, _∙_, subst}
 use mathlib.Core.Bool.{Bool, true, false, not, _||_, false≢true}
 use mathlib.Core.List.{List, [], _∷_}
 use Prim.Native.Nat.{ℕ, _<_}
@@ -40,6 +40,21 @@ not-among gs ks f n t = go (listed f gs) refl
     go : (b : Bool) → listed f gs ≡ b → b ≡ false
     go true e = absurd (subst T n (listed-at (λ g. listed g ks) gs t f e))
     go false e = refl
+
+-- no arm has matched, after what was known before the first one
+abbrev pub Missed : (before : Type 0) (codes : List ℕ) → ℕ → Type 0
+Missed N [] f = N
+Missed N (k ∷ ks) f = Missed (N × (f ≡ k → ⊥)) ks f
+
+no-code : (N : Type 0) (ks : List ℕ) (f : ℕ) → Missed N ks f → N × NoCode f ks
+no-code N [] f m = (m, tt)
+no-code N (k ∷ ks) f m =
+    let r = no-code (N × (f ≡ k → ⊥)) ks f m in
+    (r .0 .0, (r .0 .1, r .1))
+
+-- then a list of some of the arms' codes has not got this one
+pub no-arm : (ks gs : List ℕ) (f : ℕ) → Missed (Unit {0}) ks f → T (everyCode (λ g. listed g ks) gs) → listed f gs ≡ false
+no-arm ks gs f m t = not-among gs ks f (not-listed f ks (no-code (Unit {0}) ks f m .1)) t
 
 -- ---- RGB formats: their texels have bytes, and are no YUV
 pub rgb-some : (f : ℕ) → isConvertibleRgb f ≡ true → 0 < bytesOf f
@@ -90,3 +105,34 @@ lane-some f h = go (isConvertibleRgb f) (isArgbSource f) refl refl h
     go true b e g k = rgb-some f e
     go false true e g k = argb-some f g
     go false false e g k = absurd (false≢true k)
+
+-- a source with lanes that has no whole numbers of its own kind is an RGB format or has binary32 channels
+pub lane-rest : (f : ℕ) → isLaneSource f ≡ true → isCodeSource f ≡ false → (isConvertibleRgb f || eqb f A32B32G32R32F) ≡ true
+unfolding isLaneSource isArgbSource isCodeSource
+lane-rest f h n = go (isConvertibleRgb f) (eqb f A32B32G32R32F) (listed f codeSources) n h
+  where
+    go : (a e w : Bool) → w ≡ false → (a || elim e [ true ↦ true | false ↦ w ]) ≡ true → (a || e) ≡ true
+    go true e w n h = refl
+    go false true w n h = refl
+    go false false w n h = sym n ∙ h
+
+-- a source with lanes is no YUV
+pub lane-only : (f : ℕ) → isLaneSource f ≡ true → (isPlanarYuv f ≡ false) × (isPackedYuv f ≡ false)
+unfolding isLaneSource
+lane-only f h = go (isConvertibleRgb f) (isArgbSource f) refl refl h
+  where
+    go : (a b : Bool) → isConvertibleRgb f ≡ a → isArgbSource f ≡ b → (a || b) ≡ true → (isPlanarYuv f ≡ false) × (isPackedYuv f ≡ false)
+    go true b e g k = (rgb-not-planar f e, rgb-not-packed f e)
+    go false true e g k = (argb-only f g .2, argb-only f g .1)
+    go false false e g k = absurd (false≢true k)
+
+-- and what has no lanes has no whole numbers of its own kind
+pub not-lane : (f : ℕ) → isLaneSource f ≡ false → isCodeSource f ≡ false
+unfolding isLaneSource
+not-lane f h = go (isConvertibleRgb f) (isArgbSource f) (isCodeSource f) refl refl h
+  where
+    go : (a b c : Bool) → isArgbSource f ≡ b → isCodeSource f ≡ c → (a || b) ≡ false → c ≡ false
+    go a b false g e k = refl
+    go false false true g e k = absurd (false≢true (sym g ∙ code-argb f e))
+    go false true true g e k = absurd (false≢true (sym k))
+    go true b true g e k = absurd (false≢true (sym k))

@@ -5,7 +5,7 @@ ghost use mathlib.Core.Path.{_≡_};
 ghost use Prim.Native.Nat.{_≤_};
 ghost use Rattle.formats.specs.Table.{bytesOf};
 ghost use Rattle.words.specs.Multiples.{Raised};
-ghost use Rattle.formats.specs.Classes.{isConvertibleRgb, isPackedYuv, isPlanarYuv, isCodeSource, isArgbSource, linearRowPitch};
+ghost use Rattle.formats.specs.Classes.{isConvertibleRgb, isPackedYuv, isPlanarYuv, isCodeSource, isArgbSource, isLaneSource, linearRowPitch};
 
 pub const D3DFMT_R8G8B8: u32 = 20;
 
@@ -143,6 +143,16 @@ pub fn is_argb_source(d3d_format: u32) -> bool
         return true;
     }
     is_code_source(d3d_format)
+}
+
+// Whether a source's texels are words with lanes: it is an RGB format, or converts into A8R8G8B8 alone.
+pub fn is_lane_source(d3d_format: u32) -> bool
+    ensures { λ r. ⌜ r ≡ isLaneSource «d3d_format» ⌝ }
+{
+    if is_convertible_rgb(d3d_format) {
+        return true;
+    }
+    is_argb_source(d3d_format)
 }
 
 // The bytes of one texel for each code from 0 to that of A32B32G32R32F; 0 for a code that has no lanes.

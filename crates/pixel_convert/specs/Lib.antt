@@ -4,4 +4,5 @@ pub mod Own
 pub mod Promises
 pub mod Fetch
 pub mod Rows
+pub mod Carried
 pub mod Answers

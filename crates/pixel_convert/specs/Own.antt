@@ -7,19 +7,14 @@ use Prim.Native.Nat.{ℕ, _+_, _≤_, _<_}
 use native.Mathlib.Omega.{arith}
 use lib.ListN.{length, getD, take, drop}
 use lib.Seq.{sets, length-sets}
-use Rattle.words.specs.Little.{length-bytes}
 use Rattle.words.specs.Iterate.{iterate-keeps, iterate-length, iterate-makes}
 use Rattle.words.specs.Slices.{sets-before, sets-after, sets-read, part-apart}
 use Rattle.formats.specs.Table.{bytesOf}
 use Rattle.words.specs.Tests.{split}
-use Rattle.texels.specs.declared.Texel.{Texel}
 use Rattle.pixel_convert.specs.declared.ConvertRegion.{ConvertRegion}
-use Rattle.texels.specs.Texels.{encodedBytes, encodedOf}
+use Rattle.texels.specs.Texels.{encodedBytes}
+use Rattle.texels.specs.Words.{encoded-length}
 use Rattle.pixel_convert.specs.Regions.{toAt, sourceTexel, written, rowWritten, sliceWritten, regionWritten, InRegion, ByteOf, Disjoint}
-
-pub encoded-length : (d : ℕ) (t : Texel) → length (encodedBytes d t) ≡ bytesOf d
-unfolding encodedBytes
-encoded-length d t = length-bytes (bytesOf d) (encodedOf d t)
 
 module _ (src : List ℕ) (s d : ℕ) (r : ConvertRegion) where
   -- ---- lengths

@@ -6,13 +6,13 @@
 // Ported from pixel_convert.rs of athei/mtld3d (an altered version, see NOTICE).
 ghost use mathlib.Core.Path.{_≡_};
 ghost use mathlib.Core.Bool.{true, false, _&&_};
-ghost use Prim.Native.Nat.{ℕ, _+_, _≤_, _<_, _%_, _/_};
+ghost use Prim.Native.Nat.{ℕ, _+_, _≤_, _<_, _%_, _/_, min};
 ghost use lib.Dec.{eqb};
 ghost use lib.ListN.{length, take};
 ghost use lib.Seq.{sets};
 ghost use Rattle.formats.specs.Codes.{A8R8G8B8};
 ghost use Rattle.formats.specs.Table.{bytesOf};
-ghost use Rattle.formats.specs.Classes.{isConvertibleRgb, isPackedYuv, isPlanarYuv, isCodeSource, isArgbSource};
+ghost use Rattle.formats.specs.Classes.{isConvertibleRgb, isPackedYuv, isPlanarYuv, isArgbSource, isLaneSource};
 ghost use Rattle.planar_yuv.specs.Answers.{Legal};
 ghost use Rattle.texels.specs.Texels.{encodedBytes};
 ghost use Rattle.places.specs.Places.{isPicture, texelStart, layoutPlaces, placesAt, placesIn, bytesAt};
@@ -99,11 +99,10 @@ fn fetch_packed(macropixel: &[u8], d3d_format: u32, x: usize) -> Texel
     opaque(stretch_rect::decode_packed_yuv(d3d_format, macropixel, x % 2 == 1))
 }
 
-// The texel at slice z, row y and column x of any other source; `size` is its format's bytes and `layout` a planar source's.
+// The texel at slice z, row y and column x of a YUV source; `layout` is a planar one's.
 fn fetch(
     src: &[u8],
     d3d_format: u32,
-    size: usize,
     layout: PlanarYuvLayout,
     pitch: usize,
     slice_pitch: usize,
@@ -111,18 +110,14 @@ fn fetch(
     y: usize,
     x: usize,
 ) -> Texel
-    requires { ⌜ (isPicture «d3d_format» ≡ true) × (size ≡ bytesOf «d3d_format») × (LayoutFor «d3d_format» pitch («slice_pitch» / pitch) layout) × (placesIn (length (now src)) (placesAt «d3d_format» pitch «slice_pitch» z y x) ≡ true) × (isCodeSource «d3d_format» ≡ false) ⌝ }
+    requires { ⌜ (isPicture «d3d_format» ≡ true) × (isLaneSource «d3d_format» ≡ false) × (LayoutFor «d3d_format» pitch («slice_pitch» / pitch) layout) × (placesIn (length (now src)) (placesAt «d3d_format» pitch «slice_pitch» z y x) ≡ true) ⌝ }
     ensures { λ r. ⌜ r ≡ texelAt (now (src .entry)) «d3d_format» pitch «slice_pitch» z y x ⌝ }
 {
     if formats::is_planar_yuv(d3d_format) {
         return fetch_planar(src, d3d_format, layout, y, x);
     }
-    if formats::is_packed_yuv(d3d_format) {
-        let at = z * slice_pitch + y * pitch + x / 2 * 4;
-        return fetch_packed(&src[at..], d3d_format, x);
-    }
-    let from = z * slice_pitch + y * pitch + x * size;
-    texels::decode_pixel(d3d_format, &src[from..])
+    let at = z * slice_pitch + y * pitch + x / 2 * 4;
+    fetch_packed(&src[at..], d3d_format, x)
 }
 
 // A texel's bytes at slice z, row y and column x; `size` is their number.
@@ -144,54 +139,20 @@ fn store(
     texels::encode_rgb_pixel(d3d_format, t, &mut dst[to..]);
 }
 
-// The texel at slice z, row y and column x of a source of whole numbers that converts into A8R8G8B8 alone; `bytes` is their number.
-fn fetch_code(
-    src: &[u8],
-    d3d_format: u32,
-    bytes: usize,
-    pitch: usize,
-    slice_pitch: usize,
-    z: usize,
-    y: usize,
-    x: usize,
-) -> Texel
-    requires { ⌜ (isCodeSource «d3d_format» ≡ true) × (bytes ≡ bytesOf «d3d_format») × (placesIn (length (now src)) (placesAt «d3d_format» pitch «slice_pitch» z y x) ≡ true) ⌝ }
-    ensures { λ r. ⌜ r ≡ texelAt (now (src .entry)) «d3d_format» pitch «slice_pitch» z y x ⌝ }
-{
-    let from = z * slice_pitch + y * pitch + x * bytes;
-    texels::decode_code_source(d3d_format, &src[from..])
-}
-
-// A texel's bytes in A8R8G8B8 at slice z, row y and column x.
-fn store_a8r8g8b8(
-    dst: &mut [u8],
-    pitch: usize,
-    slice_pitch: usize,
-    z: usize,
-    y: usize,
-    x: usize,
-    t: Texel,
-)
-    requires { ⌜ texelStart pitch «slice_pitch» 4 z y x + 4 ≤ length (now dst) ⌝ }
-    ensures { λ _. ⌜ now (dst .exit) ≡ sets (now (dst .entry)) (texelStart pitch «slice_pitch» 4 z y x) (encodedBytes A8R8G8B8 t) ⌝ }
-{
-    let to = z * slice_pitch + y * pitch + x * 4;
-    words::put32(&mut dst[to..], texels::encode_a8r8g8b8(t));
-}
-
 // ---- a region
 
-// A row of any other source, in any two formats, which each texel's fetch and store select by.
-fn texel_row(
+// A row of a YUV source, texel by texel.
+fn yuv_row(
     dst: &mut [u8],
     dst_format: u32,
+    to_size: usize,
     src: &[u8],
     src_format: u32,
     region: ConvertRegion,
     z: usize,
     row: usize,
 )
-    requires { ⌜ (RowFits (length (now src)) (length (now dst)) «src_format» «dst_format» region z row) × (isCodeSource «src_format» ≡ false) ⌝ }
+    requires { ⌜ (RowFits (length (now src)) (length (now dst)) «src_format» «dst_format» region z row) × (isLaneSource «src_format» ≡ false) × («to_size» ≡ bytesOf «dst_format») ⌝ }
     ensures { λ _. ⌜ now (dst .exit) ≡ rowWritten (now (src .entry)) «src_format» «dst_format» region z row (now (dst .entry)) ⌝ }
 {
     let sx = region.src_x as usize;
@@ -203,28 +164,38 @@ fn texel_row(
     let ss = region.src_slice_pitch;
     let ds = region.dst_slice_pitch;
     let width = region.width as usize;
-    let from_size = formats::bytes_per_texel(src_format);
-    let to_size = formats::bytes_per_texel(dst_format);
     let layout = places::source_layout(src_format, sp, ss);
     let mut col: usize = 0;
     while col < width {
-        let t = fetch(src, src_format, from_size, layout, sp, ss, z, sy, sx + col);
+        let t = fetch(src, src_format, layout, sp, ss, z, sy, sx + col);
         store(dst, dst_format, to_size, dp, ds, z, dy, dx + col, t);
         col += 1;
     }
 }
 
-// A row of a source of whole numbers that converts into A8R8G8B8 alone.
-fn code_row(
+// How many texels of a row the next block takes: 64, or those that are left.
+fn next_block(left: usize) -> usize
+    ensures { λ r. ⌜ r ≡ min left 64 ⌝ }
+{
+    if left < 64 { left } else { 64 }
+}
+
+// A row of any other source, block by block. Both offsets are worked out for the row's first texel and carried from there: each loop
+// adds the texel size. A texel of the source has `from_size` bytes, one of the destination `to_size`.
+fn block_row(
+    block: &mut [u32],
     dst: &mut [u8],
+    dst_format: u32,
+    to_size: usize,
     src: &[u8],
     src_format: u32,
+    from_size: usize,
     region: ConvertRegion,
     z: usize,
     row: usize,
 )
-    requires { ⌜ (RowFits (length (now src)) (length (now dst)) «src_format» A8R8G8B8 region z row) × (isCodeSource «src_format» ≡ true) ⌝ }
-    ensures { λ _. ⌜ now (dst .exit) ≡ rowWritten (now (src .entry)) «src_format» A8R8G8B8 region z row (now (dst .entry)) ⌝ }
+    requires { ⌜ (RowFits (length (now src)) (length (now dst)) «src_format» «dst_format» region z row) × (isLaneSource «src_format» ≡ true) × («from_size» ≡ bytesOf «src_format») × («to_size» ≡ bytesOf «dst_format») × (64 ≤ length (now block)) ⌝ }
+    ensures { λ _. ⌜ now (dst .exit) ≡ rowWritten (now (src .entry)) «src_format» «dst_format» region z row (now (dst .entry)) ⌝ }
 {
     let from_x = region.src_x as usize;
     let to_x = region.dst_x as usize;
@@ -235,62 +206,85 @@ fn code_row(
     let from_slice = region.src_slice_pitch;
     let to_slice = region.dst_slice_pitch;
     let texels = region.width as usize;
-    let bytes = formats::bytes_per_texel(src_format);
-    let mut k: usize = 0;
-    while k < texels {
-        let t = fetch_code(
-            src,
-            src_format,
-            bytes,
-            from_pitch,
-            from_slice,
-            z,
-            from_y,
-            from_x + k,
-        );
-        store_a8r8g8b8(dst, to_pitch, to_slice, z, to_y, to_x + k, t);
-        k += 1;
+    let first = z * from_slice + from_y * from_pitch + from_x * from_size;
+    let mut from = first;
+    let mut to = z * to_slice + to_y * to_pitch + to_x * to_size;
+    let mut done: usize = 0;
+    while done < texels {
+        let n = next_block(texels - done);
+        from = blocks::read_texels(block, n, src, src_format, from);
+        to = blocks::write_texels(block, n, dst, dst_format, to);
+        done += n;
     }
 }
 
 fn convert_row(
+    block: &mut [u32],
     dst: &mut [u8],
     dst_format: u32,
+    to_size: usize,
     src: &[u8],
     src_format: u32,
+    from_size: usize,
     region: ConvertRegion,
     z: usize,
     row: usize,
 )
-    requires { ⌜ RowFits (length (now src)) (length (now dst)) «src_format» «dst_format» region z row ⌝ }
+    requires { ⌜ (RowFits (length (now src)) (length (now dst)) «src_format» «dst_format» region z row) × («from_size» ≡ bytesOf «src_format») × («to_size» ≡ bytesOf «dst_format») × (64 ≤ length (now block)) ⌝ }
     ensures { λ _. ⌜ now (dst .exit) ≡ rowWritten (now (src .entry)) «src_format» «dst_format» region z row (now (dst .entry)) ⌝ }
 {
-    if formats::is_code_source(src_format) {
-        code_row(dst, src, src_format, region, z, row);
+    if formats::is_lane_source(src_format) {
+        block_row(
+            block,
+            dst,
+            dst_format,
+            to_size,
+            src,
+            src_format,
+            from_size,
+            region,
+            z,
+            row,
+        );
         return;
     }
-    texel_row(dst, dst_format, src, src_format, region, z, row);
+    yuv_row(dst, dst_format, to_size, src, src_format, region, z, row);
 }
 
 fn convert_slice(
+    block: &mut [u32],
     dst: &mut [u8],
     dst_format: u32,
+    to_size: usize,
     src: &[u8],
     src_format: u32,
+    from_size: usize,
     region: ConvertRegion,
     z: usize,
 )
-    requires { ⌜ ((row : ℕ) → row < region .height → RowFits (length (now src)) (length (now dst)) «src_format» «dst_format» region z row) ⌝ }
+    requires { ⌜ ((row : ℕ) → row < region .height → RowFits (length (now src)) (length (now dst)) «src_format» «dst_format» region z row) × («from_size» ≡ bytesOf «src_format») × («to_size» ≡ bytesOf «dst_format») × (64 ≤ length (now block)) ⌝ }
     ensures { λ _. ⌜ now (dst .exit) ≡ sliceWritten (now (src .entry)) «src_format» «dst_format» region z (now (dst .entry)) ⌝ }
 {
     let height = region.height as usize;
     let mut row: usize = 0;
     while row < height {
-        convert_row(dst, dst_format, src, src_format, region, z, row);
+        convert_row(
+            block,
+            dst,
+            dst_format,
+            to_size,
+            src,
+            src_format,
+            from_size,
+            region,
+            z,
+            row,
+        );
         row += 1;
     }
 }
 
+// Every slice. What does not change from row to row is made here: the block, and how many bytes a texel has.
 fn convert_slices(
     dst: &mut [u8],
     dst_format: u32,
@@ -301,10 +295,23 @@ fn convert_slices(
     requires { ⌜ ((z : ℕ) → z < region .depth → (row : ℕ) → row < region .height → RowFits (length (now src)) (length (now dst)) «src_format» «dst_format» region z row) ⌝ }
     ensures { λ _. ⌜ now (dst .exit) ≡ regionWritten (now (src .entry)) «src_format» «dst_format» region (now (dst .entry)) ⌝ }
 {
+    let to_size = formats::bytes_per_texel(dst_format);
+    let from_size = formats::bytes_per_texel(src_format);
     let depth = region.depth;
+    let mut block = [0u32; 64];
     let mut z: usize = 0;
     while z < depth {
-        convert_slice(dst, dst_format, src, src_format, region, z);
+        convert_slice(
+            &mut block[..],
+            dst,
+            dst_format,
+            to_size,
+            src,
+            src_format,
+            from_size,
+            region,
+            z,
+        );
         z += 1;
     }
 }

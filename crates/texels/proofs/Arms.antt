@@ -1,18 +1,13 @@
--- An arm of the decoder's and the encoder's dispatch: the format is the arm's code, its bytes are read or stored as one word;
--- and what is left where no arm has matched.
+-- An arm of the decoder's and the encoder's dispatch: the format is the arm's code, its bytes are read or stored as one word.
 -- Assumes nothing.
 use mathlib.Core.Path.{_≡_, sym, ap, ap₂, _∙_, subst}
-use mathlib.Core.Bool.{false}
-use mathlib.Core.List.{List, [], _∷_}
+use mathlib.Core.List.{List}
 use Prim.Native.Nat.{ℕ, _/_}
 use native.Mathlib.Nat.{div-one}
-use lib.Dec.{T}
 use lib.ListN.{take}
 use lib.Seq.{sets}
 use Rattle.words.specs.Little.{number, bytes}
 use Rattle.formats.specs.Table.{bytesOf}
-use Rattle.formats.specs.Classes.{listed}
-use Rattle.formats.specs.Listed.{everyCode, NoCode, not-listed, not-among}
 use Rattle.texels.specs.declared.Texel.{Texel}
 use Rattle.texels.specs.Texels.{decodedOf, encodedOf, encodedBytes}
 
@@ -26,21 +21,6 @@ decode-arm f k n v l t e b r d =
 pub encode-arm : (f k n v : ℕ) (l out : List ℕ) (t : Texel) → f ≡ k → bytesOf k ≡ n → v ≡ encodedOf k t → out ≡ sets l 0 (bytes n v) → out ≡ sets l 0 (encodedBytes f t)
 unfolding encodedBytes
 encode-arm f k n v l out t e b w o = o ∙ ap₂ (λ m u. sets l 0 (bytes m u)) (sym b) w ∙ ap (λ g. sets l 0 (bytes (bytesOf g) (encodedOf g t))) (sym e)
-
--- no arm has matched, after what was known before the first one
-abbrev pub Missed : (before : Type 0) (codes : List ℕ) → ℕ → Type 0
-Missed N [] f = N
-Missed N (k ∷ ks) f = Missed (N × (f ≡ k → ⊥)) ks f
-
-no-code : (N : Type 0) (ks : List ℕ) (f : ℕ) → Missed N ks f → N × NoCode f ks
-no-code N [] f m = (m, tt)
-no-code N (k ∷ ks) f m =
-    let r = no-code (N × (f ≡ k → ⊥)) ks f m in
-    (r .0 .0, (r .0 .1, r .1))
-
--- then a list of some of the arms' codes has not got this one
-pub no-arm : (ks gs : List ℕ) (f : ℕ) → Missed (Unit {0}) ks f → T (everyCode (λ g. listed g ks) gs) → listed f gs ≡ false
-no-arm ks gs f m t = not-among gs ks f (not-listed f ks (no-code (Unit {0}) ks f m .1)) t
 
 -- the lowest lane is read with no shift
 pub unshifted : (read : ℕ → ℕ) (v : ℕ) → read v ≡ read (v / 1)

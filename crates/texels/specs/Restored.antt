@@ -1,11 +1,13 @@
--- Encoding what was decoded from the same RGB format restores every bit but X.
+-- Encoding what was decoded from the same RGB format restores every bit but X, and an A8R8G8B8 word keeps the texel that it was made of.
 -- Assumes nothing.
 use mathlib.Core.Path.{_≡_, refl, ap, _∙_, subst}
 use mathlib.Core.Bool.{Bool, true, false, false≢true, _||_}
-use Prim.Native.Nat.{ℕ, _≤_}
+use Prim.Native.Nat.{ℕ, _+_, _*_, _/_, _%_, _^_, _≤_, _<_}
+use native.Mathlib.Nat.{div-one}
 use native.Mathlib.Omega.{arith}
 use lib.Dec.{T}
 use borrow.Author.Tests.{le-leb}
+use Rattle.formats.specs.Codes.{R8G8B8, A8R8G8B8, X8R8G8B8}
 use Rattle.formats.specs.Lanes.{Channel, red, green, blue, alpha, luminance, depth, stencil, padding, unsigned, signed, float16, float32, ignored, Lane, nowhere, at, bits, codeAt}
 use Rattle.formats.specs.Table.{partsOf, laneOf}
 use Rattle.formats.specs.Classes.{rgbFormats, isConvertibleRgb}
@@ -15,6 +17,7 @@ use Rattle.channels.specs.Expansion.{expanded, truncated, expands}
 use Rattle.channels.specs.Luminance.{luminanceOf}
 use Rattle.texels.specs.declared.Texel.{Texel}
 use Rattle.texels.specs.Texels.{codeByte, laneByte, orElse, colourOf, missingColour, decodedOf, byteOf, codeOf, encodedOf, isColour}
+use Rattle.texels.specs.Words.{expanded-eight}
 use Rattle.texels.specs.Bounds.{Wide, Narrow, lane-wide, lane-narrow, code-lt, decoded-stands, channel-byte, encoded-holds}
 
 -- two words hold the same code in a lane
@@ -108,3 +111,40 @@ module _ (f w : ℕ) where
       go (at low n float16) e q a b x = absurd q
       go (at low n float32) e q a b x = absurd q
       go (at low n ignored) e q a b x = absurd q
+
+-- ---- an A8R8G8B8 word
+-- eight bits of eight are the byte
+eight : (v : ℕ) → v < 256 → expanded 8 (truncated 8 v) ≡ v
+unfolding truncated
+eight v h = ap (expanded 8) (div-one v) ∙ expanded-eight v h
+
+-- its texel is the one that it was made of
+pub word-keeps : (t : Texel) → ((c : Channel) → byteOf t c < 256) → decodedOf A8R8G8B8 (encodedOf A8R8G8B8 t) ≡ t
+unfolding decodedOf colourOf laneOf partsOf isConvertibleRgb
+word-keeps t h =
+    let w = encodedOf A8R8G8B8 t in
+    let holds : (c : Channel) → Held (codeOf t) c (laneOf A8R8G8B8 c) (bits (partsOf A8R8G8B8)) w = encoded-holds t h A8R8G8B8 refl in
+    let byte : (c : Channel) (k : ℕ) → k ≡ truncated 8 (byteOf t c) → expanded 8 k ≡ byteOf t c = λ c k e. ap (expanded 8) e ∙ eight (byteOf t c) (h c) in
+    λ i. record {
+      r = byte red (codeAt 16 8 w) (holds red .0) i;
+      g = byte green (codeAt 8 8 w) (holds green .0) i;
+      b = byte blue (codeAt 0 8 w) (holds blue .0) i;
+      a = byte alpha (codeAt 24 8 w) (holds alpha .0) i;
+    }
+
+-- so a texel that was decoded goes on as it is
+pub word-of : (f v : ℕ) → decodedOf A8R8G8B8 (encodedOf A8R8G8B8 (decodedOf f v)) ≡ decodedOf f v
+word-of f v = word-keeps (decodedOf f v) (channel-byte (decoded-stands f v))
+
+-- ---- R8G8B8
+-- a fourth byte above the three makes no difference, if it is read as X
+pub with-fourth : (w b : ℕ) → decodedOf X8R8G8B8 (w + 16777216 * b) ≡ decodedOf R8G8B8 w
+unfolding decodedOf colourOf missingColour laneOf partsOf
+with-fourth w b =
+    let lane : (k : ℕ) (e : (w + 16777216 * b) / 2 ^ k % 256 ≡ w / 2 ^ k % 256) → expanded 8 ((w + 16777216 * b) / 2 ^ k % 256) ≡ expanded 8 (w / 2 ^ k % 256) = λ k e. ap (expanded 8) e in
+    λ i. record {
+      r = lane 16 (omega arith) i;
+      g = lane 8 (omega arith) i;
+      b = lane 0 (omega arith) i;
+      a = 255;
+    }

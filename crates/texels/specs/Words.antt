@@ -10,10 +10,13 @@ use lib.Pow.{high, low, shl-exact}
 use lib.Dec.{lit<}
 use lib.ListN.{length, take, drop, length-drop}
 use lib.Seq.{length-take-le}
-use Rattle.words.specs.Little.{Small, number, number-split, number-lt, small-take, small-drop}
+use Rattle.words.specs.Little.{Small, number, number-split, number-lt, small-take, small-drop, length-bytes}
 use Rattle.formats.specs.Lanes.{codeAt}
 use Rattle.channels.specs.Expansion.{expanded, two-copies, truncated, truncates}
 use Rattle.channels.specs.Nearest.{rounded, rounded-same}
+use Rattle.formats.specs.Table.{bytesOf}
+use Rattle.texels.specs.declared.Texel.{Texel}
+use Rattle.texels.specs.Texels.{encodedOf, encodedBytes}
 
 -- a byte expands to itself
 pub expanded-eight : (k : ℕ) → k < 256 → expanded 8 k ≡ k
@@ -52,3 +55,8 @@ byte-lane a n rest l s h =
 pub padding-bit : truncated 1 255 ≡ 1
 unfolding truncated
 padding-bit = refl
+
+-- a texel has its format's number of bytes
+pub encoded-length : (f : ℕ) (t : Texel) → length (encodedBytes f t) ≡ bytesOf f
+unfolding encodedBytes
+encoded-length f t = length-bytes (bytesOf f) (encodedOf f t)

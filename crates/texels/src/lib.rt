@@ -11,7 +11,7 @@ ghost use lib.Seq.{sets};
 ghost use Rattle.words.specs.Little.{number};
 ghost use Rattle.formats.specs.Codes.{R8G8B8, A8R8G8B8, X8R8G8B8, R5G6B5, X1R5G5B5, A1R5G5B5, A4R4G4B4, A8, A2B10G10R10, A8B8G8R8, X8B8G8R8, G16R16, A2R10G10B10, A16B16G16R16, L8, A8L8, V8U8, Q8W8V8U8, L16, A32B32G32R32F};
 ghost use Rattle.formats.specs.Table.{bytesOf};
-ghost use Rattle.formats.specs.Classes.{isConvertibleRgb, isCodeSource};
+ghost use Rattle.formats.specs.Classes.{isConvertibleRgb, isCodeSource, isLaneSource};
 ghost use Rattle.channels.specs.Expansion.{expanded};
 ghost use Rattle.channels.specs.Nearest.{rounded};
 ghost use Rattle.texels.specs.Texels.{decodedOf, encodedOf, encodedBytes};
@@ -250,16 +250,18 @@ fn decode_q8w8v8u8(v: u32) -> Texel
     }
 }
 
-// Four 16-bit channels, each the nearest byte.
+// Four 16-bit channels, each the nearest byte. Two are read at a time, which the compiler does for several texels at once.
 fn decode_a16b16g16r16(px: &[u8]) -> Texel
     requires { ⌜ 8 ≤ length (now px) ⌝ }
     ensures { λ r. ⌜ r ≡ decodedOf A16B16G16R16 (number (take 8 (now (px .entry)))) ⌝ }
 {
+    let low = words::le32(px);
+    let high = words::le32(&px[4..]);
     Texel {
-        r: channels::unorm16_to_unorm8(words::le16(px)),
-        g: channels::unorm16_to_unorm8(words::le16(&px[2..])),
-        b: channels::unorm16_to_unorm8(words::le16(&px[4..])),
-        a: channels::unorm16_to_unorm8(words::le16(&px[6..])),
+        r: nearest16(low),
+        g: nearest16(low >> 16),
+        b: nearest16(high),
+        a: nearest16(high >> 16),
     }
 }
 
@@ -334,7 +336,7 @@ fn encode_r8g8b8(t: Texel) -> u32
     (t.r as u32) * 65536 + (t.g as u32) * 256 + (t.b as u32)
 }
 
-pub fn encode_a8r8g8b8(t: Texel) -> u32
+fn encode_a8r8g8b8(t: Texel) -> u32
     ensures { λ r. ⌜ r ≡ encodedOf A8R8G8B8 t ⌝ }
 {
     (t.a as u32) * 16777216 + (t.r as u32) * 65536 + (t.g as u32) * 256 + (t.b as u32)
@@ -434,4 +436,25 @@ pub fn encode_rgb_pixel(d3d_format: u32, t: Texel, out: &mut [u8])
         D3DFMT_A8L8 => words::put16(out, encode_a8l8(t)),
         _ => {}
     }
+}
+
+// ---- A8R8G8B8 words, which stand for texels between the reading and the writing of a block of them
+
+// The texel at the front of `px`, of any format with lanes, as its A8R8G8B8 word.
+pub fn read_word(d3d_format: u32, px: &[u8]) -> u32
+    requires { ⌜ (isLaneSource «d3d_format» ≡ true) × (bytesOf «d3d_format» ≤ length (now px)) ⌝ }
+    ensures { λ r. ⌜ r ≡ encodedOf A8R8G8B8 (decodedOf «d3d_format» (number (take (bytesOf «d3d_format») (now (px .entry))))) ⌝ }
+{
+    if formats::is_code_source(d3d_format) {
+        return encode_a8r8g8b8(decode_code_source(d3d_format, px));
+    }
+    encode_a8r8g8b8(decode_pixel(d3d_format, px))
+}
+
+// The bytes of a word's texel at the front of `out`, in one of the RGB formats.
+pub fn write_word(d3d_format: u32, word: u32, out: &mut [u8])
+    requires { ⌜ (isConvertibleRgb «d3d_format» ≡ true) × (bytesOf «d3d_format» ≤ length (now out)) ⌝ }
+    ensures { λ _. ⌜ now (out .exit) ≡ sets (now (out .entry)) 0 (encodedBytes «d3d_format» (decodedOf A8R8G8B8 word)) ⌝ }
+{
+    encode_rgb_pixel(d3d_format, decode_a8r8g8b8(word), out);
 }

@@ -9,7 +9,7 @@ use Rattle.depth_pixels.proofs.code_of.Statement.{statement}
 use Rattle.depth_pixels.proofs.code_of.Tie as tie
 
 float-to-bits-code-of-bits : tie.Need-float-to-bits-code-of-bits
-float-to-bits-code-of-bits c = c .pre .1
+float-to-bits-code-of-bits c = c .pre .2
 
 code-of-bits-requires : tie.Need-code-of-bits-requires
 code-of-bits-requires c κs = search needs

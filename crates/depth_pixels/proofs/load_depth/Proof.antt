@@ -1,19 +1,19 @@
--- `depth_pixels::load_depth` meets its contract: a NaN and 0 are both 0 when they are clamped, and any other pattern is read as it stands. Assumes nothing.
+-- `depth_pixels::load_depth` meets its contract: a NaN, what is negative and 0 are all 0 when they are clamped, and any other pattern is read as it stands. Assumes nothing.
 use mathlib.Core.Path.{_≡_, sym, ap, _∙_, subst}
 use Prim.Native.Nat.{ℕ, _-_, _%_, _≤_, _<_}
 use mathlib.Core.Bool.{not}
 use mathlib.Core.List.{List}
 use native.Mathlib.Omega.{arith}
-use lib.Dec.{T, not-T, ltb→lt, lt→ltb}
+use lib.Dec.{T, not-T, ltb→lt}
 use lib.ListN.{length, take, drop}
 use lib.Ieee.{binary32, ofBits, nanBits}
 use lib.Ieee.Bits.{nanBits-is, nanBits-above}
 use denote.Ref.{now}
 use Rattle.words.specs.Little.{number}
 use Rattle.words.specs.Slices.{part-read}
-use Rattle.channels.specs.Floats.{clamped}
+use Rattle.channels.specs.Floats.{clamped, as-zero}
 use Rattle.depth_pixels.specs.PixelBytes.{depthAt}
-use Rattle.depth_pixels.proofs.Patterns.{nan-clamped, zero-clamped, zero-number}
+use Rattle.depth_pixels.proofs.Patterns.{zero-number}
 use borrow.Author.Needs.{needs}
 use Rattle.depth_pixels.proofs.load_depth.Statement.{statement}
 use Rattle.depth_pixels.proofs.load_depth.Tie as tie
@@ -23,15 +23,12 @@ bits-read : (plane : List ℕ) (at bits : ℕ) → bits ≡ number (take 4 (take
 unfolding depthAt
 bits-read plane at bits e = sym (ap (ofBits binary32) (e ∙ ap (λ l. number (take 4 l)) (part-read plane at)))
 
-no-nan-bits : (b : ℕ) → b % 2147483648 ≤ 2139095040 → T (not (nanBits binary32 b))
-no-nan-bits b h = not-T (nanBits binary32 b) (λ t. above (b % 2147483648) h (ltb→lt 2139095040 (b % 2147483648) (subst T (nanBits-above binary32 b) t)))
+-- a pattern with no sign that is no NaN's
+no-nan-bits : (b : ℕ) → b ≤ 2139095040 → T (not (nanBits binary32 b))
+no-nan-bits b h = not-T (nanBits binary32 b) (λ t. above b h (ltb→lt 2139095040 (b % 2147483648) (subst T (nanBits-above binary32 b) t)))
   where
-    above : (n : ℕ) → n ≤ 2139095040 → 2139095040 < n → ⊥
+    above : (n : ℕ) → n ≤ 2139095040 → 2139095040 < n % 2147483648 → ⊥
     above n h k = omega arith
-
-nan-as-zero : (b : ℕ) → 2139095040 < b % 2147483648 → clamped (ofBits binary32 0) ≡ clamped (ofBits binary32 b)
-nan-as-zero b h =
-    zero-clamped ∙ sym (nan-clamped (ofBits binary32 b) (subst T (nanBits-is binary32 b) (subst T (sym (nanBits-above binary32 b)) (lt→ltb 2139095040 (b % 2147483648) h))))
 
 sub-le32 : tie.Need-sub-le32
 sub-le32 c = search needs
@@ -48,7 +45,7 @@ le32-requires c κs = search needs
 returns : tie.Need-returns
 returns c =
     let g = c .before .before .before .before .args in
-    (nan-as-zero (c .before .le32 .result) (c .if1 .taken) ∙ ap clamped (sym (bits-read (now (g .plane)) (g .at) _ (c .before .le32 .ensures))), zero-number)
+    (as-zero (c .before .le32 .result) (c .if1 .taken) ∙ ap clamped (sym (bits-read (now (g .plane)) (g .at) _ (c .before .le32 .ensures))), zero-number)
 
 float-from-bits-result : tie.Need-float-from-bits-result
 float-from-bits-result c = no-nan-bits (c .before .le32 .result) (c .if1 .left)

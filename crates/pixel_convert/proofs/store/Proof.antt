@@ -9,7 +9,7 @@ use denote.Ref.{now}
 use Rattle.words.specs.Slices.{part-back}
 use Rattle.texels.specs.Texels.{encodedBytes}
 use Rattle.places.specs.Places.{texelStart}
-use Rattle.pixel_convert.specs.Own.{encoded-length}
+use Rattle.texels.specs.Words.{encoded-length}
 use borrow.Author.Needs.{needs}
 use Rattle.pixel_convert.proofs.store.Statement.{statement}
 use Rattle.pixel_convert.proofs.store.Tie as tie

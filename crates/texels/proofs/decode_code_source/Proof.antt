@@ -4,7 +4,8 @@ use mathlib.Core.Bool.{false≢true}
 use native.Mathlib.Omega.{arith}
 use Rattle.formats.specs.Classes.{codeSources, isCodeSource}
 use Rattle.formats.specs.Table.{bytesOf, partsOf}
-use Rattle.texels.proofs.Arms.{decode-arm, no-arm}
+use Rattle.formats.specs.Listed.{no-arm}
+use Rattle.texels.proofs.Arms.{decode-arm}
 use borrow.Author.Needs.{needs}
 use Rattle.texels.proofs.decode_code_source.Statement.{statement}
 use Rattle.texels.proofs.decode_code_source.Tie as tie

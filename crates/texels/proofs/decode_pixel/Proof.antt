@@ -6,7 +6,8 @@ use borrow.Author.Tests.{ne-eqb}
 use Rattle.formats.specs.Codes.{A32B32G32R32F}
 use Rattle.formats.specs.Classes.{rgbFormats, isConvertibleRgb}
 use Rattle.formats.specs.Table.{bytesOf, partsOf}
-use Rattle.texels.proofs.Arms.{decode-arm, no-arm}
+use Rattle.formats.specs.Listed.{no-arm}
+use Rattle.texels.proofs.Arms.{decode-arm}
 use borrow.Author.Needs.{needs}
 use Rattle.texels.proofs.decode_pixel.Statement.{statement}
 use Rattle.texels.proofs.decode_pixel.Tie as tie

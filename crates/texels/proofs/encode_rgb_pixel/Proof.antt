@@ -4,7 +4,8 @@ use mathlib.Core.Bool.{false≢true}
 use native.Mathlib.Omega.{arith}
 use Rattle.formats.specs.Classes.{rgbFormats, isConvertibleRgb}
 use Rattle.formats.specs.Table.{bytesOf, partsOf}
-use Rattle.texels.proofs.Arms.{encode-arm, no-arm}
+use Rattle.formats.specs.Listed.{no-arm}
+use Rattle.texels.proofs.Arms.{encode-arm}
 use borrow.Author.Needs.{needs}
 use Rattle.texels.proofs.encode_rgb_pixel.Statement.{statement}
 use Rattle.texels.proofs.encode_rgb_pixel.Tie as tie
