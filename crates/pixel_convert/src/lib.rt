@@ -12,7 +12,7 @@ ghost use lib.ListN.{length, take};
 ghost use lib.Seq.{sets};
 ghost use Rattle.formats.specs.Codes.{A8R8G8B8};
 ghost use Rattle.formats.specs.Table.{bytesOf};
-ghost use Rattle.formats.specs.Classes.{isConvertibleRgb, isPackedYuv, isPlanarYuv, isArgbSource, isLaneSource};
+ghost use Rattle.formats.specs.Classes.{isConvertibleRgb, isPackedYuv, isPlanarYuv, isCodeSource, isArgbSource, isLaneSource};
 ghost use Rattle.planar_yuv.specs.Answers.{Legal};
 ghost use Rattle.texels.specs.Texels.{encodedBytes};
 ghost use Rattle.places.specs.Places.{isPicture, texelStart, layoutPlaces, placesAt, placesIn, bytesAt};
@@ -99,10 +99,11 @@ fn fetch_packed(macropixel: &[u8], d3d_format: u32, x: usize) -> Texel
     opaque(stretch_rect::decode_packed_yuv(d3d_format, macropixel, x % 2 == 1))
 }
 
-// The texel at slice z, row y and column x of a YUV source; `layout` is a planar one's.
+// The texel at slice z, row y and column x of YUV, RGB or binary32; `size` is its format's bytes and `layout` a planar source's.
 fn fetch(
     src: &[u8],
     d3d_format: u32,
+    size: usize,
     layout: PlanarYuvLayout,
     pitch: usize,
     slice_pitch: usize,
@@ -110,14 +111,18 @@ fn fetch(
     y: usize,
     x: usize,
 ) -> Texel
-    requires { ⌜ (isPicture «d3d_format» ≡ true) × (isLaneSource «d3d_format» ≡ false) × (LayoutFor «d3d_format» pitch («slice_pitch» / pitch) layout) × (placesIn (length (now src)) (placesAt «d3d_format» pitch «slice_pitch» z y x) ≡ true) ⌝ }
+    requires { ⌜ (isPicture «d3d_format» ≡ true) × (size ≡ bytesOf «d3d_format») × (LayoutFor «d3d_format» pitch («slice_pitch» / pitch) layout) × (placesIn (length (now src)) (placesAt «d3d_format» pitch «slice_pitch» z y x) ≡ true) × (isCodeSource «d3d_format» ≡ false) ⌝ }
     ensures { λ r. ⌜ r ≡ texelAt (now (src .entry)) «d3d_format» pitch «slice_pitch» z y x ⌝ }
 {
     if formats::is_planar_yuv(d3d_format) {
         return fetch_planar(src, d3d_format, layout, y, x);
     }
-    let at = z * slice_pitch + y * pitch + x / 2 * 4;
-    fetch_packed(&src[at..], d3d_format, x)
+    if formats::is_packed_yuv(d3d_format) {
+        let at = z * slice_pitch + y * pitch + x / 2 * 4;
+        return fetch_packed(&src[at..], d3d_format, x);
+    }
+    let from = z * slice_pitch + y * pitch + x * size;
+    texels::decode_pixel(d3d_format, &src[from..])
 }
 
 // A texel's bytes at slice z, row y and column x; `size` is their number.
@@ -141,18 +146,19 @@ fn store(
 
 // ---- a region
 
-// A row of a YUV source, texel by texel.
-fn yuv_row(
+// A row of a source that `fetch` takes, texel by texel: each offset is worked out afresh. Rows of YUV are converted so.
+fn texel_row(
     dst: &mut [u8],
     dst_format: u32,
     to_size: usize,
     src: &[u8],
     src_format: u32,
+    from_size: usize,
     region: ConvertRegion,
     z: usize,
     row: usize,
 )
-    requires { ⌜ (RowFits (length (now src)) (length (now dst)) «src_format» «dst_format» region z row) × (isLaneSource «src_format» ≡ false) × («to_size» ≡ bytesOf «dst_format») ⌝ }
+    requires { ⌜ (RowFits (length (now src)) (length (now dst)) «src_format» «dst_format» region z row) × (isCodeSource «src_format» ≡ false) × («from_size» ≡ bytesOf «src_format») × («to_size» ≡ bytesOf «dst_format») ⌝ }
     ensures { λ _. ⌜ now (dst .exit) ≡ rowWritten (now (src .entry)) «src_format» «dst_format» region z row (now (dst .entry)) ⌝ }
 {
     let sx = region.src_x as usize;
@@ -167,7 +173,7 @@ fn yuv_row(
     let layout = places::source_layout(src_format, sp, ss);
     let mut col: usize = 0;
     while col < width {
-        let t = fetch(src, src_format, layout, sp, ss, z, sy, sx + col);
+        let t = fetch(src, src_format, from_size, layout, sp, ss, z, sy, sx + col);
         store(dst, dst_format, to_size, dp, ds, z, dy, dx + col, t);
         col += 1;
     }
@@ -180,7 +186,7 @@ fn next_block(left: usize) -> usize
     if left < 64 { left } else { 64 }
 }
 
-// A row of any other source, block by block. Both offsets are worked out for the row's first texel and carried from there: each loop
+// A row of a source with lanes, block by block. Both offsets are worked out for the row's first texel and carried from there: each loop
 // adds the texel size. A texel of the source has `from_size` bytes, one of the destination `to_size`.
 fn block_row(
     block: &mut [u32],
@@ -248,7 +254,17 @@ fn convert_row(
         );
         return;
     }
-    yuv_row(dst, dst_format, to_size, src, src_format, region, z, row);
+    texel_row(
+        dst,
+        dst_format,
+        to_size,
+        src,
+        src_format,
+        from_size,
+        region,
+        z,
+        row,
+    );
 }
 
 fn convert_slice(

@@ -233,15 +233,6 @@ lanes-left f h p q = go (isLaneSource f) (sym (ap (λ b. isLaneSource f || isPac
     go true k = refl
     go false k = k
 
--- and one that has none and is not planar is packed
-pub packed-left : (f : ℕ) → isPicture f ≡ true → isLaneSource f ≡ false → isPlanarYuv f ≡ false → isPackedYuv f ≡ true
-unfolding isPicture
-packed-left f h l p = go (isPackedYuv f) (sym (ap (λ b. isLaneSource f || isPackedYuv f || b) p ∙ ap (λ b. b || isPackedYuv f || false) l) ∙ h)
-  where
-    go : (b : Bool) → (b || false) ≡ true → b ≡ true
-    go true k = refl
-    go false k = k
-
 -- ---- where a texel ends
 module _ (len f pitch slice-pitch z y x : ℕ) (h : placesIn len (placesAt f pitch slice-pitch z y x) ≡ true) where
   pub lane-ends : isPlanarYuv f ≡ false → isPackedYuv f ≡ false → 0 < bytesOf f → texelStart pitch slice-pitch (bytesOf f) z y x + bytesOf f ≤ len

@@ -1,5 +1,6 @@
 -- `pixel_convert::convert_row` meets its contract: the row of the source at hand. Assumes nothing.
 use mathlib.Core.Path.{sym, _∙_}
+use Rattle.formats.specs.Listed.{not-lane}
 use borrow.Author.Needs.{needs}
 use Rattle.pixel_convert.proofs.convert_row.Statement.{statement}
 use Rattle.pixel_convert.proofs.convert_row.Tie as tie
@@ -22,11 +23,11 @@ same-length-2 c = search needs
 returns : tie.Need-returns
 returns c = search needs
 
-yuv-row-requires : tie.Need-yuv-row-requires
-yuv-row-requires c κs =
+texel-row-requires : tie.Need-texel-row-requires
+texel-row-requires c κs =
     let e = c .before in
     let s = e .before .before .before .before .before in
-    (s .pre .0, sym (e .before .is-lane-source .ensures) ∙ e .if1 .left, s .pre .2)
+    (s .pre .0, not-lane (s .args .src-format) (sym (e .before .is-lane-source .ensures) ∙ e .if1 .left), s .pre .1, s .pre .2)
 
 same-length-3 : tie.Need-same-length-3
 same-length-3 c = search needs
@@ -43,6 +44,6 @@ convert-row-spec =
     same-length
     same-length-2
     returns
-    yuv-row-requires
+    texel-row-requires
     same-length-3
     returns-2)

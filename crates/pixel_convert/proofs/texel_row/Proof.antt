@@ -1,4 +1,4 @@
--- `pixel_convert::yuv_row` meets its contract: column by column. Assumes nothing.
+-- `pixel_convert::texel_row` meets its contract: column by column. Assumes nothing.
 use mathlib.Core.Path.{_≡_, refl, sym, ap, _∙_, subst}
 use mathlib.Core.List.{List}
 use Prim.Native.Nat.{ℕ, _+_, _-_, _≤_}
@@ -17,15 +17,15 @@ use Rattle.pixel_convert.specs.Regions.{toAt, texelAt, sourceTexel, writ
 use Rattle.pixel_convert.specs.Promises.{convert-rgb}
 use Rattle.pixel_convert.specs.Answers.{convert-picture}
 use borrow.Author.Needs.{needs}
-use Rattle.pixel_convert.proofs.yuv_row.Statement.{statement}
-use Rattle.pixel_convert.proofs.yuv_row.Tie as tie
+use Rattle.pixel_convert.proofs.texel_row.Statement.{statement}
+use Rattle.pixel_convert.proofs.texel_row.Tie as tie
 
 abbrev Inv-loop : tie.InvT-loop
-Inv-loop dst₀ dst-format to-size src src-format z row sx dx sy dy sp dp ss ds width layout col₀ dst col =
+Inv-loop dst₀ dst-format to-size src src-format from-size z row sx dx sy dy sp dp ss ds width layout col₀ dst col =
     (dst ≡ iterate (λ k l. sets l (texelStart dp ds (bytesOf dst-format) z dy (dx + k)) (encodedBytes dst-format (texelAt src src-format sp ss z sy (sx + k)))) col dst₀) × (length dst ≡ length dst₀) × (col ≤ width)
 
 abbrev μ-loop : tie.MeasureT-loop
-μ-loop dst₀ dst-format to-size src src-format z row sx dx sy dy sp dp ss ds width layout col₀ dst col = width - col
+μ-loop dst₀ dst-format to-size src src-format from-size z row sx dx sy dy sp dp ss ds width layout col₀ dst col = width - col
 
 abbrev In : Type 0
 In = tie.In-loop Inv-loop μ-loop
@@ -68,7 +68,7 @@ add-fetch : tie.Need-add-fetch Inv-loop μ-loop
 add-fetch c = omega (arith, source c .column)
 
 fetch-requires : tie.Need-fetch-requires Inv-loop μ-loop
-fetch-requires c κs = (convert-picture (start c .args .src-format) (start c .args .dst-format) (start c .pre .0 .pair), start c .pre .1, c .before .before .source-layout .ensures .1, source c .places)
+fetch-requires c κs = (convert-picture (start c .args .src-format) (start c .args .dst-format) (start c .pre .0 .pair), start c .pre .2, c .before .before .source-layout .ensures .1, source c .places, start c .pre .1)
 
 add-store : tie.Need-add-store Inv-loop μ-loop
 add-store c = omega (arith, start (c .before .before) .pre .0 .columns (c .before .before .before .loop .col) (c .before .before .loop-test .taken))
@@ -77,7 +77,7 @@ store-requires : tie.Need-store-requires Inv-loop μ-loop
 unfolding toAt
 store-requires c κs =
     let i = c .before .before in
-    (convert-rgb (start i .args .src-format) (start i .args .dst-format) (start i .pre .0 .pair), start i .pre .2, subst (λ (m : ℕ). toAt (start i .args .dst-format) (start i .args .region) (start i .args .z) (start i .args .row) (i .before .loop .col) + bytesOf (start i .args .dst-format) ≤ m) (sym (i .before .loop .inv .1)) (start i .pre .0 .destination (i .before .loop .col) (i .loop-test .taken)))
+    (convert-rgb (start i .args .src-format) (start i .args .dst-format) (start i .pre .0 .pair), start i .pre .3, subst (λ (m : ℕ). toAt (start i .args .dst-format) (start i .args .region) (start i .args .z) (start i .args .row) (i .before .loop .col) + bytesOf (start i .args .dst-format) ≤ m) (sym (i .before .loop .inv .1)) (start i .pre .0 .destination (i .before .loop .col) (i .loop-test .taken)))
 
 add-col : tie.Need-add-col Inv-loop μ-loop
 add-col c = omega (arith, source (c .before .before .before .before .before) .column)
@@ -110,8 +110,8 @@ returns c =
     let past = le-antisymm (c .before .loop .inv .2) (c .loop-test .left) in
     c .before .loop .inv .0 ∙ rw past refl
 
-pub yuv-row-spec : {M : Type 1} → statement M
-yuv-row-spec =
+pub texel-row-spec : {M : Type 1} → statement M
+texel-row-spec =
     tie.close
     (tie.spec
     Inv-loop
