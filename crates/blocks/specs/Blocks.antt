@@ -1,8 +1,8 @@
--- What it is to read texels into a block of A8R8G8B8 words and to write them from it, with the offset that is carried along, and the laws
--- of one texel more.
+-- What it is to read texels into a block of A8R8G8B8 words and to write the texels of such words, with the offset that is carried along,
+-- and the laws of one texel more.
 -- Assumes nothing.
 use mathlib.Core.Path.{_≡_, refl, sym, ap, ap₂, _∙_, subst}
-use mathlib.Core.List.{List}
+use mathlib.Core.List.{List, _++_}
 use mathlib.Core.Logic.{⊎-elim}
 use Prim.Native.Nat.{ℕ, _+_, _*_, _-_, _≤_, _<_}
 use native.Mathlib.Nat.{add-mul, mul-le-mul-right}
@@ -11,10 +11,12 @@ use lib.ListN.{length, getD, set, take, drop, length-drop}
 use lib.Seq.{sets, getD-set-same, getD-set-other}
 use Rattle.words.specs.Little.{number, number-split}
 use Rattle.words.specs.Iterate.{iterate, iterate-step}
+use Rattle.words.specs.Slices.{part-back}
 use Rattle.words.specs.Tests.{lt-or-eq}
 use Rattle.formats.specs.Codes.{R8G8B8, A8R8G8B8, X8R8G8B8}
 use Rattle.formats.specs.Table.{partsOf, bytesOf}
 use Rattle.texels.specs.Texels.{decodedOf, encodedOf, encodedBytes}
+use Rattle.texels.specs.Words.{encoded-length}
 use Rattle.texels.specs.Restored.{with-fourth}
 
 -- n texels of so many bytes, a step apart from byte from on, end within len bytes
@@ -30,14 +32,22 @@ pub record BlockRead (src : List ℕ) (f step from n : ℕ) (block : List ℕ) (
   pub words : (k : ℕ) → k < n → getD block k 0 ≡ wordFrom src f (from + k * step)
   pub carried : off ≡ from + n * step
 
--- the texel of word k of a block, written
-unfoldable pub wordWritten : (block : List ℕ) (f to k : ℕ) → List ℕ → List ℕ
-wordWritten block f to k dst = sets dst (to + k * bytesOf f) (encodedBytes f (decodedOf A8R8G8B8 (getD block k 0)))
+-- the texel of the k-th of some A8R8G8B8 words, written
+unfoldable pub wordWritten : (word : ℕ → ℕ) (f to k : ℕ) → List ℕ → List ℕ
+wordWritten word f to k dst = sets dst (to + k * bytesOf f) (encodedBytes f (decodedOf A8R8G8B8 (word k)))
 
--- the texels of a block's first n words were written from byte to on, and the offset carried past them is where the next one goes
-pub record BlockWritten (block : List ℕ) (f to n : ℕ) (dst out : List ℕ) (off : ℕ) : Type 0 where
-  pub bytes : out ≡ iterate (wordWritten block f to) n dst
+-- the texels of the first n words were written from byte to on, and the offset carried past them is where the next one goes
+pub record WordsWritten (word : ℕ → ℕ) (f to n : ℕ) (dst out : List ℕ) (off : ℕ) : Type 0 where
+  pub bytes : out ≡ iterate (wordWritten word f to) n dst
   pub carried : off ≡ to + n * bytesOf f
+
+-- the words of a block
+abbrev pub wordOf : List ℕ → ℕ → ℕ
+wordOf block k = getD block k 0
+
+-- the words of A8R8G8B8 texels where they lie, from byte from on
+abbrev pub wordIn : (src : List ℕ) (from k : ℕ) → ℕ
+wordIn src from k = number (take 4 (drop (from + k * 4) src))
 
 -- ---- one texel more
 -- the step is added once more
@@ -60,11 +70,19 @@ read-more src f step from i block off w b h e = record {
   carried = once-more from step i off (b .carried);
 }
 
-pub write-more : (block : List ℕ) (f size to i : ℕ) (dst₀ dst out : List ℕ) (off : ℕ) → size ≡ bytesOf f → BlockWritten block f to i dst₀ dst off
-    → out ≡ sets dst off (encodedBytes f (decodedOf A8R8G8B8 (getD block i 0))) → BlockWritten block f to (i + 1) dst₀ out (off + size)
+-- the part that was lent for a word's texel, back in its place
+pub word-back : (dst : List ℕ) (f off w : ℕ) (part : List ℕ) → off + bytesOf f ≤ length dst → part ≡ sets (take (length dst - off) (drop off dst)) 0 (encodedBytes f (decodedOf A8R8G8B8 w))
+    → take off dst ++ (part ++ drop (length dst - off) (drop off dst)) ≡ sets dst off (encodedBytes f (decodedOf A8R8G8B8 w))
+word-back dst f off w part h e =
+    let t = decodedOf A8R8G8B8 w in
+    ap (λ (l : List ℕ). take off dst ++ (l ++ drop (length dst - off) (drop off dst))) e
+    ∙ part-back dst off (length dst - off) (encodedBytes f t) refl (omega (arith, h, encoded-length f t))
+
+pub write-more : (word : ℕ → ℕ) (f size to i : ℕ) (dst₀ dst out : List ℕ) (off : ℕ) → size ≡ bytesOf f → WordsWritten word f to i dst₀ dst off
+    → out ≡ sets dst off (encodedBytes f (decodedOf A8R8G8B8 (word i))) → WordsWritten word f to (i + 1) dst₀ out (off + size)
 unfolding wordWritten
-write-more block f size to i dst₀ dst out off z b e = record {
-  bytes = iterate-step (wordWritten block f to) i dst₀ dst out (b .bytes) (e ∙ ap (λ p. sets dst p (encodedBytes f (decodedOf A8R8G8B8 (getD block i 0)))) (b .carried));
+write-more word f size to i dst₀ dst out off z b e = record {
+  bytes = iterate-step (wordWritten word f to) i dst₀ dst out (b .bytes) (e ∙ ap (λ p. sets dst p (encodedBytes f (decodedOf A8R8G8B8 (word i)))) (b .carried));
   carried = ap (λ n. off + n) z ∙ once-more to (bytesOf f) i off (b .carried);
 }
 
@@ -94,5 +112,5 @@ module _ (f k z : ℕ) (e : f ≡ k) (b : bytesOf k ≡ z) where
   read-arm src from n block off r =
       subst (λ g. BlockRead src g (bytesOf g) from n block off) (sym e) (subst (λ s. BlockRead src k s from n block off) (sym b) r)
 
-  pub write-arm : (block : List ℕ) (to n : ℕ) (dst out : List ℕ) (off : ℕ) → BlockWritten block k to n dst out off → BlockWritten block f to n dst out off
-  write-arm block to n dst out off w = subst (λ g. BlockWritten block g to n dst out off) (sym e) w
+  pub write-arm : (word : ℕ → ℕ) (to n : ℕ) (dst out : List ℕ) (off : ℕ) → WordsWritten word k to n dst out off → WordsWritten word f to n dst out off
+  write-arm word to n dst out off w = subst (λ g. WordsWritten word g to n dst out off) (sym e) w

@@ -8,7 +8,7 @@ ghost use lib.ListN.{length};
 ghost use Rattle.formats.specs.Codes.{R8G8B8};
 ghost use Rattle.formats.specs.Table.{bytesOf};
 ghost use Rattle.formats.specs.Classes.{isConvertibleRgb, isLaneSource};
-ghost use Rattle.blocks.specs.Blocks.{TexelsIn, BlockRead, BlockWritten};
+ghost use Rattle.blocks.specs.Blocks.{TexelsIn, BlockRead, WordsWritten, wordOf, wordIn};
 use formats::D3DFMT_A1R5G5B5;
 use formats::D3DFMT_A2B10G10R10;
 use formats::D3DFMT_A2R10G10B10;
@@ -108,7 +108,7 @@ fn write_block(
     to: usize,
 ) -> usize
     requires { ⌜ (isConvertibleRgb «d3d_format» ≡ true) × (size ≡ bytesOf «d3d_format») × (n ≤ length (now block)) × (to + n * bytesOf «d3d_format» ≤ length (now dst)) ⌝ }
-    ensures { λ r. ⌜ BlockWritten (now (block .entry)) «d3d_format» to n (now (dst .entry)) (now (dst .exit)) r ⌝ }
+    ensures { λ r. ⌜ WordsWritten (wordOf (now (block .entry))) «d3d_format» to n (now (dst .entry)) (now (dst .exit)) r ⌝ }
 {
     let mut off = to;
     let mut i: usize = 0;
@@ -123,7 +123,7 @@ fn write_block(
 // The same for the format at hand, which each arm hands on as a literal.
 pub fn write_texels(block: &[u32], n: usize, dst: &mut [u8], d3d_format: u32, to: usize) -> usize
     requires { ⌜ (isConvertibleRgb «d3d_format» ≡ true) × (n ≤ length (now block)) × (to + n * bytesOf «d3d_format» ≤ length (now dst)) ⌝ }
-    ensures { λ r. ⌜ BlockWritten (now (block .entry)) «d3d_format» to n (now (dst .entry)) (now (dst .exit)) r ⌝ }
+    ensures { λ r. ⌜ WordsWritten (wordOf (now (block .entry))) «d3d_format» to n (now (dst .entry)) (now (dst .exit)) r ⌝ }
 {
     match d3d_format {
         D3DFMT_R8G8B8 => write_block(block, n, dst, D3DFMT_R8G8B8, 3, to),
@@ -138,6 +138,64 @@ pub fn write_texels(block: &[u32], n: usize, dst: &mut [u8], d3d_format: u32, to
         D3DFMT_X8B8G8R8 => write_block(block, n, dst, D3DFMT_X8B8G8R8, 4, to),
         D3DFMT_L8 => write_block(block, n, dst, D3DFMT_L8, 1, to),
         D3DFMT_A8L8 => write_block(block, n, dst, D3DFMT_A8L8, 2, to),
+        _ => to,
+    }
+}
+
+// ---- A8R8G8B8, which needs no block: its texels are such words where they lie
+
+// n texels of A8R8G8B8 from byte `from` of the source on, in `size` bytes each from byte `to` of the destination on; returns where the
+// next one goes. Both offsets are carried.
+fn rewrite_block(
+    n: usize,
+    src: &[u8],
+    from: usize,
+    dst: &mut [u8],
+    d3d_format: u32,
+    size: usize,
+    to: usize,
+) -> usize
+    requires { ⌜ (isConvertibleRgb «d3d_format» ≡ true) × (size ≡ bytesOf «d3d_format») × (from + n * 4 ≤ length (now src)) × (to + n * bytesOf «d3d_format» ≤ length (now dst)) ⌝ }
+    ensures { λ r. ⌜ WordsWritten (wordIn (now (src .entry)) from) «d3d_format» to n (now (dst .entry)) (now (dst .exit)) r ⌝ }
+{
+    let mut at = from;
+    let mut place = to;
+    let mut i: usize = 0;
+    while i < n {
+        let word = words::le32(&src[at..]);
+        texels::write_word(d3d_format, word, &mut dst[place..]);
+        at += 4;
+        place += size;
+        i += 1;
+    }
+    place
+}
+
+// The same for the format at hand, which each arm hands on as a literal.
+pub fn rewrite_texels(
+    n: usize,
+    src: &[u8],
+    from: usize,
+    dst: &mut [u8],
+    d3d_format: u32,
+    to: usize,
+) -> usize
+    requires { ⌜ (isConvertibleRgb «d3d_format» ≡ true) × (from + n * 4 ≤ length (now src)) × (to + n * bytesOf «d3d_format» ≤ length (now dst)) ⌝ }
+    ensures { λ r. ⌜ WordsWritten (wordIn (now (src .entry)) from) «d3d_format» to n (now (dst .entry)) (now (dst .exit)) r ⌝ }
+{
+    match d3d_format {
+        D3DFMT_R8G8B8 => rewrite_block(n, src, from, dst, D3DFMT_R8G8B8, 3, to),
+        D3DFMT_A8R8G8B8 => rewrite_block(n, src, from, dst, D3DFMT_A8R8G8B8, 4, to),
+        D3DFMT_X8R8G8B8 => rewrite_block(n, src, from, dst, D3DFMT_X8R8G8B8, 4, to),
+        D3DFMT_R5G6B5 => rewrite_block(n, src, from, dst, D3DFMT_R5G6B5, 2, to),
+        D3DFMT_X1R5G5B5 => rewrite_block(n, src, from, dst, D3DFMT_X1R5G5B5, 2, to),
+        D3DFMT_A1R5G5B5 => rewrite_block(n, src, from, dst, D3DFMT_A1R5G5B5, 2, to),
+        D3DFMT_A4R4G4B4 => rewrite_block(n, src, from, dst, D3DFMT_A4R4G4B4, 2, to),
+        D3DFMT_A8 => rewrite_block(n, src, from, dst, D3DFMT_A8, 1, to),
+        D3DFMT_A8B8G8R8 => rewrite_block(n, src, from, dst, D3DFMT_A8B8G8R8, 4, to),
+        D3DFMT_X8B8G8R8 => rewrite_block(n, src, from, dst, D3DFMT_X8B8G8R8, 4, to),
+        D3DFMT_L8 => rewrite_block(n, src, from, dst, D3DFMT_L8, 1, to),
+        D3DFMT_A8L8 => rewrite_block(n, src, from, dst, D3DFMT_A8L8, 2, to),
         _ => to,
     }
 }

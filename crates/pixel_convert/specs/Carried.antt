@@ -1,22 +1,22 @@
 -- A row by blocks: the offsets that are carried along it are the ones worked out afresh, and reading and writing its blocks writes its texels.
 -- Assumes nothing.
-use mathlib.Core.Path.{_≡_, refl, sym, ap, ap₂, _∙_}
+use mathlib.Core.Path.{_≡_, refl, sym, ap, ap₂, _∙_, subst}
 use mathlib.Core.Bool.{true}
 use mathlib.Core.List.{List}
 use Prim.Native.Nat.{ℕ, _+_, _*_, _-_, _≤_, _<_}
-use native.Mathlib.Nat.{add-zero, add-mul, add-assoc}
+use native.Mathlib.Nat.{zero-add, add-zero, add-mul, add-assoc}
 use native.Mathlib.Omega.{arith}
 use lib.ListN.{length, take, drop}
 use lib.Seq.{sets}
 use Rattle.words.specs.Little.{number}
-use Rattle.words.specs.Iterate.{iterate, iterate-add, iterate-same}
+use Rattle.words.specs.Iterate.{iterate, iterate-zero, iterate-add, iterate-same}
 use Rattle.formats.specs.Codes.{A8R8G8B8}
-use Rattle.formats.specs.Table.{bytesOf}
+use Rattle.formats.specs.Table.{partsOf, bytesOf}
 use Rattle.formats.specs.Classes.{isLaneSource}
 use Rattle.formats.specs.Listed.{lane-some, lane-only}
 use Rattle.texels.specs.Texels.{decodedOf, encodedBytes}
 use Rattle.texels.specs.Restored.{word-of}
-use Rattle.blocks.specs.Blocks.{wordFrom, wordWritten, BlockRead, BlockWritten}
+use Rattle.blocks.specs.Blocks.{wordFrom, wordWritten, wordOf, wordIn, BlockRead, WordsWritten}
 use Rattle.places.specs.Places.{texelStart}
 use Rattle.places.specs.Inside.{lane-ends}
 use Rattle.pixel_convert.specs.declared.ConvertRegion.{ConvertRegion}
@@ -78,19 +78,6 @@ module _ (src : List ℕ) (m s d : ℕ) (r : ConvertRegion) (z row : ℕ) (fits 
       word-of s (number (take (bytesOf s) (drop (fromAt col) src)))
       ∙ sym (lane-texel src s (r .«src_pitch») (r .«src_slice_pitch») z (r .«src_y» + row) (r .«src_x» + col) (lane-only s lane .0) (lane-only s lane .1) (source-ends col h))
 
-  -- a row's first offsets lie within the buffers
-  pub first-from : (size : ℕ) → size ≡ bytesOf s → z * r .«src_slice_pitch» + (r .«src_y» + row) * r .«src_pitch» + r .«src_x» * size ≤ length src
-  unfolding texelStart
-  first-from size e =
-      let first : CarriedIn s d r z row 0 _ _ = carried-first s d (r .«src_pitch») (r .«src_slice_pitch») (r .«dst_pitch») (r .«dst_slice_pitch») z (r .«src_y» + row) (r .«dst_y» + row) (r .«src_x») (r .«dst_x») size (bytesOf d) e refl in
-      omega (arith, first .source, source-ends 0 (fits .rows .0))
-
-  pub first-to : (size : ℕ) → size ≡ bytesOf d → z * r .«dst_slice_pitch» + (r .«dst_y» + row) * r .«dst_pitch» + r .«dst_x» * size ≤ m
-  unfolding texelStart toAt
-  first-to size e =
-      let first : CarriedIn s d r z row 0 _ _ = carried-first s d (r .«src_pitch») (r .«src_slice_pitch») (r .«dst_pitch») (r .«dst_slice_pitch») z (r .«src_y» + row) (r .«dst_y» + row) (r .«src_x») (r .«dst_x») (bytesOf s) size refl e in
-      omega (arith, first .destination, fits .destination 0 (fits .rows .0))
-
   module _ (col n from to : ℕ) (c : CarriedIn s d r z row col from to) (some : 0 < n) (within : col + n ≤ r .width) where
     -- after k texels more
     at-texel : (k : ℕ) → CarriedIn s d r z row (col + k) (from + k * bytesOf s) (to + k * bytesOf d)
@@ -109,22 +96,57 @@ module _ (src : List ℕ) (m s d : ℕ) (r : ConvertRegion) (z row : ℕ) (fits 
     unfolding toAt
     write-room = ends (bytesOf d) m to (toAt d r z row (col + (n - 1))) (at-texel (n - 1) .destination) (fits .destination (col + (n - 1)) (omega (arith, some, within)))
 
-    -- a block is read, and written
-    module _ (block dst₀ dst out : List ℕ) (next after : ℕ) (read : BlockRead src s (bytesOf s) from n block next) (wrote : BlockWritten block d to n dst out after) where
-      -- each of its texels is written as the row has it
-      pub block-rows : dst ≡ iterate (written src s d r z row) col dst₀ → out ≡ iterate (written src s d r z row) (col + n) dst₀
+    -- the words of these texels are written
+    module _ (word : ℕ → ℕ) (dst₀ dst out : List ℕ) (after : ℕ) (wrote : WordsWritten word d to n dst out after) where
+      -- if each is its texel's, the row's texels are written as the row has them
+      pub block-rows : ((k : ℕ) → k < n → decodedOf A8R8G8B8 (word k) ≡ sourceTexel src s r z row (col + k)) → dst ≡ iterate (written src s d r z row) col dst₀
+          → out ≡ iterate (written src s d r z row) (col + n) dst₀
       unfolding wordWritten written toAt
-      block-rows e =
+      block-rows same e =
           wrote .bytes
-          ∙ iterate-same (wordWritten block d to) (λ k. written src s d r z row (col + k)) n dst texel
+          ∙ iterate-same (wordWritten word d to) (λ k. written src s d r z row (col + k)) n dst (λ k h l. ap₂ (λ p t. sets l p (encodedBytes d t)) (at-texel k .destination) (same k h))
           ∙ ap (iterate (λ k. written src s d r z row (col + k)) n) e
           ∙ sym (iterate-add (written src s d r z row) col n dst₀)
-        where
-          texel : (k : ℕ) → k < n → (l : List ℕ) → wordWritten block d to k l ≡ written src s d r z row (col + k) l
-          texel k h l =
-              ap₂ (λ p t. sets l p (encodedBytes d t)) (at-texel k .destination)
-              (ap (decodedOf A8R8G8B8) (read .words k h ∙ ap (wordFrom src s) (at-texel k .source)) ∙ word-texel (col + k) (omega (arith, h, within)))
+
+    -- words that were read into a block are those of the texels
+    module _ (block : List ℕ) (next : ℕ) (read : BlockRead src s (bytesOf s) from n block next) where
+      pub block-texels : (k : ℕ) → k < n → decodedOf A8R8G8B8 (wordOf block k) ≡ sourceTexel src s r z row (col + k)
+      block-texels k h = ap (decodedOf A8R8G8B8) (read .words k h ∙ ap (wordFrom src s) (at-texel k .source)) ∙ word-texel (col + k) (omega (arith, h, within))
 
       -- after it both offsets are those of the next block's first texel
-      pub block-carried : CarriedIn s d r z row (col + n) next after
-      block-carried = record { source = read .carried ∙ at-texel n .source; destination = wrote .carried ∙ at-texel n .destination }
+      pub block-carried : (word : ℕ → ℕ) (dst out : List ℕ) (after : ℕ) → WordsWritten word d to n dst out after → CarriedIn s d r z row (col + n) next after
+      block-carried word dst out after wrote = record { source = read .carried ∙ at-texel n .source; destination = wrote .carried ∙ at-texel n .destination }
+
+    -- A8R8G8B8 texels are such words where they lie
+    lying-texels : s ≡ A8R8G8B8 → (k : ℕ) → k < n → decodedOf A8R8G8B8 (wordIn src from k) ≡ sourceTexel src s r z row (col + k)
+    unfolding sourceTexel bytesOf partsOf
+    lying-texels e k h =
+        subst (λ f. decodedOf f (number (take (bytesOf f) (drop (from + k * bytesOf f) src))) ≡ sourceTexel src s r z row (col + k)) e
+        (ap (λ p. decodedOf s (number (take (bytesOf s) (drop p src)))) (at-texel k .source)
+        ∙ sym (lane-texel src s (r .«src_pitch») (r .«src_slice_pitch») z (r .«src_y» + row) (r .«src_x» + (col + k)) (lane-only s lane .0) (lane-only s lane .1) (source-ends (col + k) (omega (arith, h, within)))))
+
+  -- a row's first offsets, as they are worked out from the bytes of a texel
+  module _ (from-size to-size : ℕ) (e : from-size ≡ bytesOf s) (f : to-size ≡ bytesOf d) where
+    abbrev firstFrom : ℕ
+    firstFrom = z * r .«src_slice_pitch» + (r .«src_y» + row) * r .«src_pitch» + r .«src_x» * from-size
+
+    abbrev firstTo : ℕ
+    firstTo = z * r .«dst_slice_pitch» + (r .«dst_y» + row) * r .«dst_pitch» + r .«dst_x» * to-size
+
+    pub first-carried : CarriedIn s d r z row 0 firstFrom firstTo
+    first-carried = carried-first s d (r .«src_pitch») (r .«src_slice_pitch») (r .«dst_pitch») (r .«dst_slice_pitch») z (r .«src_y» + row) (r .«dst_y» + row) (r .«src_x») (r .«dst_x») from-size to-size e f
+
+    -- the whole row lies behind them
+    pub row-read : firstFrom + r .width * bytesOf s ≤ length src
+    row-read = read-room 0 (r .width) firstFrom firstTo first-carried (fits .rows .0) (omega arith)
+
+    pub row-write : firstTo + r .width * bytesOf d ≤ m
+    row-write = write-room 0 (r .width) firstFrom firstTo first-carried (fits .rows .0) (omega arith)
+
+    -- A8R8G8B8: the row is written from the words where they lie
+    pub lying-row : s ≡ A8R8G8B8 → (dst out : List ℕ) (after : ℕ) → WordsWritten (wordIn src firstFrom) d firstTo (r .width) dst out after → out ≡ iterate (written src s d r z row) (r .width) dst
+    lying-row g dst out after wrote =
+        let l : 0 + r .width ≤ r .width = omega arith in
+        block-rows 0 (r .width) firstFrom firstTo first-carried (fits .rows .0) l (wordIn src firstFrom) dst dst out after wrote
+        (lying-texels 0 (r .width) firstFrom firstTo first-carried (fits .rows .0) l g) (sym (iterate-zero (written src s d r z row) dst))
+        ∙ ap (λ n. iterate (written src s d r z row) n dst) (zero-add (r .width))

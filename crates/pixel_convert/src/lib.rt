@@ -186,8 +186,8 @@ fn next_block(left: usize) -> usize
     if left < 64 { left } else { 64 }
 }
 
-// A row of a source with lanes, block by block. Both offsets are worked out for the row's first texel and carried from there: each loop
-// adds the texel size. A texel of the source has `from_size` bytes, one of the destination `to_size`.
+// A row of a source with lanes, block by block; A8R8G8B8 goes without one. Both offsets are worked out for the row's first texel and
+// carried from there: each loop adds the texel size. A texel of the source has `from_size` bytes, one of the destination `to_size`.
 fn block_row(
     block: &mut [u32],
     dst: &mut [u8],
@@ -212,9 +212,14 @@ fn block_row(
     let from_slice = region.src_slice_pitch;
     let to_slice = region.dst_slice_pitch;
     let texels = region.width as usize;
-    let first = z * from_slice + from_y * from_pitch + from_x * from_size;
-    let mut from = first;
-    let mut to = z * to_slice + to_y * to_pitch + to_x * to_size;
+    let first_from = z * from_slice + from_y * from_pitch + from_x * from_size;
+    let first_to = z * to_slice + to_y * to_pitch + to_x * to_size;
+    if src_format == D3DFMT_A8R8G8B8 {
+        blocks::rewrite_texels(texels, src, first_from, dst, dst_format, first_to);
+        return;
+    }
+    let mut from = first_from;
+    let mut to = first_to;
     let mut done: usize = 0;
     while done < texels {
         let n = next_block(texels - done);

@@ -451,10 +451,24 @@ pub fn read_word(d3d_format: u32, px: &[u8]) -> u32
     encode_a8r8g8b8(decode_pixel(d3d_format, px))
 }
 
+// The R5G6B5 word of a word's texel: the top bits of each lane, with no byte between.
+fn word_r5g6b5(word: u32) -> u16
+    ensures { λ r. ⌜ r ≡ encodedOf R5G6B5 (decodedOf A8R8G8B8 word) ⌝ }
+{
+    let r5 = (word >> 19) % 32;
+    let g6 = (word >> 10) % 64;
+    let b5 = (word >> 3) % 32;
+    (r5 * 2048 + g6 * 32 + b5) as u16
+}
+
 // The bytes of a word's texel at the front of `out`, in one of the RGB formats.
 pub fn write_word(d3d_format: u32, word: u32, out: &mut [u8])
     requires { ⌜ (isConvertibleRgb «d3d_format» ≡ true) × (bytesOf «d3d_format» ≤ length (now out)) ⌝ }
     ensures { λ _. ⌜ now (out .exit) ≡ sets (now (out .entry)) 0 (encodedBytes «d3d_format» (decodedOf A8R8G8B8 word)) ⌝ }
 {
+    if d3d_format == D3DFMT_R5G6B5 {
+        words::put16(out, word_r5g6b5(word));
+        return;
+    }
     encode_rgb_pixel(d3d_format, decode_a8r8g8b8(word), out);
 }

@@ -1,26 +1,23 @@
 -- `blocks::write_block` meets its contract: texel by texel, with the offset carried. Assumes nothing.
 use mathlib.Core.Path.{_≡_, refl, sym, ap, _∙_, subst}
-use mathlib.Core.List.{List, _++_}
 use Prim.Native.Nat.{ℕ, _+_, _*_, _-_, _≤_, _<_}
 use native.Mathlib.Nat.{le-antisymm}
 use native.Mathlib.Omega.{arith}
-use lib.ListN.{length, getD, take, drop, length-take, length-drop}
-use lib.Seq.{sets, length-sets}
+use lib.ListN.{length, length-take, length-drop}
+use lib.Seq.{length-sets}
 use denote.Ref.{now}
 use Rattle.words.specs.Iterate.{iterate-zero}
-use Rattle.words.specs.Slices.{part-back}
 use Rattle.formats.specs.Codes.{A8R8G8B8}
 use Rattle.formats.specs.Table.{bytesOf}
 use Rattle.texels.specs.Texels.{decodedOf, encodedBytes}
-use Rattle.texels.specs.Words.{encoded-length}
-use Rattle.blocks.specs.Blocks.{BlockWritten, write-more, each-in}
+use Rattle.blocks.specs.Blocks.{WordsWritten, wordOf, word-back, write-more, each-in}
 use borrow.Author.Needs.{needs}
 use Rattle.blocks.proofs.write_block.Statement.{statement}
 use Rattle.blocks.proofs.write_block.Tie as tie
 
 -- the carried offset is the one worked out from the first texel
 abbrev Inv-loop : tie.InvT-loop
-Inv-loop block n dst₀ d3d-format size to off₀ i₀ dst off i = BlockWritten block d3d-format to i dst₀ dst off × (i ≤ n) × (length dst ≡ length dst₀)
+Inv-loop block n dst₀ d3d-format size to off₀ i₀ dst off i = WordsWritten (wordOf block) d3d-format to i dst₀ dst off × (i ≤ n) × (length dst ≡ length dst₀)
 
 abbrev μ-loop : tie.MeasureT-loop
 μ-loop block n dst₀ d3d-format size to off₀ i₀ dst off i = n - i
@@ -79,12 +76,11 @@ loop-again c =
     let g = start i .args in
     let l = i .before .loop in
     let dst = l .dst in
-    let vs = encodedBytes (g .d3d-format) (decodedOf A8R8G8B8 (getD (now (g .block)) (l .i) 0)) in
-    let e = ap (λ (w : List ℕ). take (l .off) dst ++ (w ++ drop (length dst - l .off) (drop (l .off) dst))) (c .before .before .write-word .ensures)
-    ∙ part-back dst (l .off) (length dst - l .off) vs refl (omega (arith, room i, encoded-length (g .d3d-format) (decodedOf A8R8G8B8 (getD (now (g .block)) (l .i) 0)))) in (
-      write-more (now (g .block)) (g .d3d-format) (g .size) (g .to) (l .i) (now (g .dst)) dst _ (l .off) (start i .pre .1) (l .inv .0) e,
+    let w = wordOf (now (g .block)) (l .i) in
+    let e = word-back dst (g .d3d-format) (l .off) w _ (room i) (c .before .before .write-word .ensures) in (
+      write-more (wordOf (now (g .block))) (g .d3d-format) (g .size) (g .to) (l .i) (now (g .dst)) dst _ (l .off) (start i .pre .1) (l .inv .0) e,
       omega (arith, i .loop-test .taken),
-      ap length e ∙ length-sets dst (l .off) vs ∙ l .inv .2,
+      ap length e ∙ length-sets dst (l .off) (encodedBytes (g .d3d-format) (decodedOf A8R8G8B8 w)) ∙ l .inv .2,
     )
 
 same-length : tie.Need-same-length Inv-loop μ-loop
@@ -95,7 +91,7 @@ returns c =
     let g = c .before .before .before .before .args in
     let l = c .before .loop in
     let past = le-antisymm (l .inv .1) (c .loop-test .left) in
-    subst (λ (k : ℕ). BlockWritten (now (g .block)) (g .d3d-format) (g .to) k (now (g .dst)) (l .dst) (l .off)) past (l .inv .0)
+    subst (λ (k : ℕ). WordsWritten (wordOf (now (g .block))) (g .d3d-format) (g .to) k (now (g .dst)) (l .dst) (l .off)) past (l .inv .0)
 
 pub write-block-spec : {M : Type 1} → statement M
 write-block-spec =

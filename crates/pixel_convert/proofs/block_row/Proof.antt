@@ -7,31 +7,32 @@ use lib.ListN.{length}
 use lib.Seq.{sets}
 use denote.Ref.{now}
 use Rattle.words.specs.Iterate.{iterate, iterate-zero}
-use Rattle.formats.specs.Table.{bytesOf}
+use Rattle.formats.specs.Table.{partsOf, bytesOf}
 use Rattle.texels.specs.Texels.{encodedBytes}
+use Rattle.blocks.specs.Blocks.{wordOf}
 use Rattle.places.specs.Places.{texelStart}
 use Rattle.pixel_convert.specs.Regions.{toAt, texelAt, sourceTexel, written, rowWritten}
 use Rattle.pixel_convert.specs.Promises.{convert-rgb}
-use Rattle.pixel_convert.specs.Carried.{Carried, CarriedIn, carried-first, first-from, first-to, read-room, write-room, block-rows, block-carried}
+use Rattle.pixel_convert.specs.Carried.{Carried, read-room, write-room, block-rows, block-texels, block-carried, first-carried, row-read, row-write, lying-row}
 use borrow.Author.Needs.{needs}
 use Rattle.pixel_convert.proofs.block_row.Statement.{statement}
 use Rattle.pixel_convert.proofs.block_row.Tie as tie
 
 -- at each block the carried offsets are the ones worked out afresh, and the columns before it are written
 abbrev Inv-loop : tie.InvT-loop
-Inv-loop block₀ dst₀ dst-format to-size src src-format from-size z row from-x to-x from-y to-y from-pitch to-pitch from-slice to-slice texels first from₀ to₀ done₀ block dst from to done =
+Inv-loop block₀ dst₀ dst-format to-size src src-format from-size z row from-x to-x from-y to-y from-pitch to-pitch from-slice to-slice texels first-from first-to from₀ to₀ done₀ block dst from to done =
     Carried src-format dst-format from-pitch from-slice to-pitch to-slice z from-y to-y from-x to-x done from to
     × (dst ≡ iterate (λ k l. sets l (texelStart to-pitch to-slice (bytesOf dst-format) z to-y (to-x + k)) (encodedBytes dst-format (texelAt src src-format from-pitch from-slice z from-y (from-x + k)))) done dst₀)
     × (length dst ≡ length dst₀) × (length block ≡ length block₀) × (done ≤ texels)
 
 abbrev μ-loop : tie.MeasureT-loop
-μ-loop block₀ dst₀ dst-format to-size src src-format from-size z row from-x to-x from-y to-y from-pitch to-pitch from-slice to-slice texels first from₀ to₀ done₀ block dst from to done = texels - done
+μ-loop block₀ dst₀ dst-format to-size src src-format from-size z row from-x to-x from-y to-y from-pitch to-pitch from-slice to-slice texels first-from first-to from₀ to₀ done₀ block dst from to done = texels - done
 
 abbrev In : Type 0
 In = tie.In-loop Inv-loop μ-loop
 
 abbrev start : In → tie.Start Inv-loop μ-loop
-start c = c .before .before .before .before .before .before .before .before .before .before
+start c = c .before .before .before .before .before .before .before .before .before .before .before
 
 abbrev Begun : Type 0
 Begun = tie.After-struct-known5 Inv-loop μ-loop
@@ -39,18 +40,18 @@ Begun = tie.After-struct-known5 Inv-loop μ-loop
 abbrev entry : Begun → tie.Start Inv-loop μ-loop
 entry c = c .before .before .before .before .before .before .before .before
 
--- the row's first offsets fit
-from-fits : (c : Begun) → entry c .args .z * entry c .args .region .«src_slice_pitch» + (entry c .args .region .«src_y» + entry c .args .row) * entry c .args .region .«src_pitch» + entry c .args .region .«src_x» * entry c .args .from-size ≤ length (now (entry c .args .src))
+-- the row's texels lie within both buffers
+from-fits : (c : Begun) → entry c .args .z * entry c .args .region .«src_slice_pitch» + (entry c .args .region .«src_y» + entry c .args .row) * entry c .args .region .«src_pitch» + entry c .args .region .«src_x» * entry c .args .from-size + entry c .args .region .width * bytesOf (entry c .args .src-format) ≤ length (now (entry c .args .src))
 from-fits c =
     let s = entry c in
     let g = s .args in
-    first-from (now (g .src)) (length (now (g .dst))) (g .src-format) (g .dst-format) (g .region) (g .z) (g .row) (s .pre .0) (s .pre .1) (g .from-size) (s .pre .2)
+    row-read (now (g .src)) (length (now (g .dst))) (g .src-format) (g .dst-format) (g .region) (g .z) (g .row) (s .pre .0) (s .pre .1) (g .from-size) (g .to-size) (s .pre .2) (s .pre .3)
 
-to-fits : (c : Begun) → entry c .args .z * entry c .args .region .«dst_slice_pitch» + (entry c .args .region .«dst_y» + entry c .args .row) * entry c .args .region .«dst_pitch» + entry c .args .region .«dst_x» * entry c .args .to-size ≤ length (now (entry c .args .dst))
+to-fits : (c : Begun) → entry c .args .z * entry c .args .region .«dst_slice_pitch» + (entry c .args .region .«dst_y» + entry c .args .row) * entry c .args .region .«dst_pitch» + entry c .args .region .«dst_x» * entry c .args .to-size + entry c .args .region .width * bytesOf (entry c .args .dst-format) ≤ length (now (entry c .args .dst))
 to-fits c =
     let s = entry c in
     let g = s .args in
-    first-to (now (g .src)) (length (now (g .dst))) (g .src-format) (g .dst-format) (g .region) (g .z) (g .row) (s .pre .0) (s .pre .1) (g .to-size) (s .pre .3)
+    row-write (now (g .src)) (length (now (g .dst))) (g .src-format) (g .dst-format) (g .region) (g .z) (g .row) (s .pre .0) (s .pre .1) (g .from-size) (g .to-size) (s .pre .2) (s .pre .3)
 
 cast-from-x : tie.Need-cast-from-x Inv-loop μ-loop
 cast-from-x c = search needs
@@ -73,47 +74,62 @@ add-to-y c = omega (arith, c .before .before .before .before .before .before .be
 cast-texels : tie.Need-cast-texels Inv-loop μ-loop
 cast-texels c = search needs
 
-mul-first : tie.Need-mul-first Inv-loop μ-loop
-mul-first c = omega (arith, from-fits c, entry c .good .1 .1 .1 .1 .0)
+mul-first-from : tie.Need-mul-first-from Inv-loop μ-loop
+mul-first-from c = omega (arith, from-fits c, entry c .good .1 .1 .1 .1 .0)
 
-mul-first-2 : tie.Need-mul-first-2 Inv-loop μ-loop
-mul-first-2 c = omega (arith, from-fits c, entry c .good .1 .1 .1 .1 .0)
+mul-first-from-2 : tie.Need-mul-first-from-2 Inv-loop μ-loop
+mul-first-from-2 c = omega (arith, from-fits c, entry c .good .1 .1 .1 .1 .0)
 
-add-first : tie.Need-add-first Inv-loop μ-loop
-add-first c = omega (arith, from-fits c, entry c .good .1 .1 .1 .1 .0)
+add-first-from : tie.Need-add-first-from Inv-loop μ-loop
+add-first-from c = omega (arith, from-fits c, entry c .good .1 .1 .1 .1 .0)
 
-mul-first-3 : tie.Need-mul-first-3 Inv-loop μ-loop
-mul-first-3 c = omega (arith, from-fits c, entry c .good .1 .1 .1 .1 .0)
+mul-first-from-3 : tie.Need-mul-first-from-3 Inv-loop μ-loop
+mul-first-from-3 c = omega (arith, from-fits c, entry c .good .1 .1 .1 .1 .0)
 
-add-first-2 : tie.Need-add-first-2 Inv-loop μ-loop
-add-first-2 c = omega (arith, from-fits c, entry c .good .1 .1 .1 .1 .0)
+add-first-from-2 : tie.Need-add-first-from-2 Inv-loop μ-loop
+add-first-from-2 c = omega (arith, from-fits c, entry c .good .1 .1 .1 .1 .0)
 
-mul-to : tie.Need-mul-to Inv-loop μ-loop
-mul-to c = omega (arith, to-fits c)
+mul-first-to : tie.Need-mul-first-to Inv-loop μ-loop
+mul-first-to c = omega (arith, to-fits c)
 
-mul-to-2 : tie.Need-mul-to-2 Inv-loop μ-loop
-mul-to-2 c = omega (arith, to-fits c)
+mul-first-to-2 : tie.Need-mul-first-to-2 Inv-loop μ-loop
+mul-first-to-2 c = omega (arith, to-fits c)
 
-add-to : tie.Need-add-to Inv-loop μ-loop
-add-to c = omega (arith, to-fits c)
+add-first-to : tie.Need-add-first-to Inv-loop μ-loop
+add-first-to c = omega (arith, to-fits c)
 
-mul-to-3 : tie.Need-mul-to-3 Inv-loop μ-loop
-mul-to-3 c = omega (arith, to-fits c)
+mul-first-to-3 : tie.Need-mul-first-to-3 Inv-loop μ-loop
+mul-first-to-3 c = omega (arith, to-fits c)
 
-add-to-2 : tie.Need-add-to-2 Inv-loop μ-loop
-add-to-2 c = omega (arith, to-fits c)
+add-first-to-2 : tie.Need-add-first-to-2 Inv-loop μ-loop
+add-first-to-2 c = omega (arith, to-fits c)
+
+rewrite-texels-requires : tie.Need-rewrite-texels-requires Inv-loop μ-loop
+unfolding bytesOf partsOf
+rewrite-texels-requires c κs =
+    let b = c .before .before in
+    let g = entry b .args in
+    let e : bytesOf (g .src-format) ≡ 4 = ap bytesOf (c .before .if1 .taken) in
+    let four : g .region .width * bytesOf (g .src-format) ≡ g .region .width * 4 = ap (λ n. g .region .width * n) e in
+    (convert-rgb (g .src-format) (g .dst-format) (entry b .pre .0 .pair), omega (arith, from-fits b, four), to-fits b)
+
+same-length : tie.Need-same-length Inv-loop μ-loop
+same-length c = search needs
+
+returns : tie.Need-returns Inv-loop μ-loop
+unfolding rowWritten
+returns c =
+    let t = c .before .before .before .before in
+    let s = entry (t .before) in
+    let g = s .args in
+    let wrote = c .before .before .rewrite-texels in
+    lying-row (now (g .src)) (length (now (g .dst))) (g .src-format) (g .dst-format) (g .region) (g .z) (g .row) (s .pre .0) (s .pre .1) (g .from-size) (g .to-size) (s .pre .2) (s .pre .3) (t .if1 .taken) (now (g .dst)) _ (wrote .result) (wrote .ensures)
 
 loop-holds : tie.Need-loop-holds Inv-loop μ-loop
 loop-holds c =
-    let s = entry c in
+    let s = entry (c .before) in
     let g = s .args in
-    let r = g .region in (
-      carried-first (g .src-format) (g .dst-format) (r .«src_pitch») (r .«src_slice_pitch») (r .«dst_pitch») (r .«dst_slice_pitch») (g .z) (r .«src_y» + g .row) (r .«dst_y» + g .row) (r .«src_x») (r .«dst_x») (g .from-size) (g .to-size) (s .pre .2) (s .pre .3),
-      sym (iterate-zero _ _),
-      refl,
-      refl,
-      search needs,
-    )
+    (first-carried (now (g .src)) (length (now (g .dst))) (g .src-format) (g .dst-format) (g .region) (g .z) (g .row) (s .pre .0) (s .pre .1) (g .from-size) (g .to-size) (s .pre .2) (s .pre .3), sym (iterate-zero _ _), refl, refl, search needs)
 
 sub-next-block : tie.Need-sub-next-block Inv-loop μ-loop
 sub-next-block c = search needs
@@ -162,7 +178,7 @@ write-texels-requires c κs =
 add-done : tie.Need-add-done Inv-loop μ-loop
 add-done c =
     let b = c .before .before .before .before .before .before .before .before .before in
-    omega (arith, sized b .2, c .before .before .before .before .before .before .before .before .before .before .before .before .struct-known5)
+    omega (arith, sized b .2, c .before .before .before .before .before .before .before .before .before .before .before .before .before .struct-known5)
 
 loop-less : tie.Need-loop-less Inv-loop μ-loop
 loop-less c =
@@ -179,23 +195,23 @@ loop-again c =
     let l = i .before .loop in
     let read = c .before .before .before .before .before .before .before .read-texels in
     let wrote = c .before .before .write-texels in
-    let e = block-rows (now (g .src)) (length (now (g .dst))) (g .src-format) (g .dst-format) (g .region) (g .z) (g .row) (s .pre .0) (s .pre .1) (l .done) (b .next-block .result) (l .from) (l .to) (l .inv .0) (sized b .0) (sized b .2) (read .last .0) (now (g .dst)) (l .dst) (wrote .last .1 .1 .0) (read .result) (wrote .result) (read .ensures) (wrote .ensures) (l .inv .1) in (
-      block-carried (now (g .src)) (length (now (g .dst))) (g .src-format) (g .dst-format) (g .region) (g .z) (g .row) (s .pre .0) (s .pre .1) (l .done) (b .next-block .result) (l .from) (l .to) (l .inv .0) (sized b .0) (sized b .2) (read .last .0) (now (g .dst)) (l .dst) (wrote .last .1 .1 .0) (read .result) (wrote .result) (read .ensures) (wrote .ensures),
-      e,
+    let texels = block-texels (now (g .src)) (length (now (g .dst))) (g .src-format) (g .dst-format) (g .region) (g .z) (g .row) (s .pre .0) (s .pre .1) (l .done) (b .next-block .result) (l .from) (l .to) (l .inv .0) (sized b .0) (sized b .2) (read .last .0) (read .result) (read .ensures) in (
+      block-carried (now (g .src)) (length (now (g .dst))) (g .src-format) (g .dst-format) (g .region) (g .z) (g .row) (s .pre .0) (s .pre .1) (l .done) (b .next-block .result) (l .from) (l .to) (l .inv .0) (sized b .0) (sized b .2) (read .last .0) (read .result) (read .ensures) (wordOf (read .last .0)) (l .dst) (wrote .last .1 .1 .0) (wrote .result) (wrote .ensures),
+      block-rows (now (g .src)) (length (now (g .dst))) (g .src-format) (g .dst-format) (g .region) (g .z) (g .row) (s .pre .0) (s .pre .1) (l .done) (b .next-block .result) (l .from) (l .to) (l .inv .0) (sized b .0) (sized b .2) (wordOf (read .last .0)) (now (g .dst)) (l .dst) (wrote .last .1 .1 .0) (wrote .result) (wrote .ensures) texels (l .inv .1),
       wrote .kept .1 .1 .0 ∙ l .inv .2,
       read .kept .0 ∙ l .inv .3,
       sized b .2,
     )
 
-same-length : tie.Need-same-length Inv-loop μ-loop
-same-length c = search needs
-
 same-length-2 : tie.Need-same-length-2 Inv-loop μ-loop
 same-length-2 c = search needs
 
-returns : tie.Need-returns Inv-loop μ-loop
+same-length-3 : tie.Need-same-length-3 Inv-loop μ-loop
+same-length-3 c = search needs
+
+returns-2 : tie.Need-returns-2 Inv-loop μ-loop
 unfolding rowWritten written toAt sourceTexel
-returns c =
+returns-2 c =
     let past = le-antisymm (c .before .loop .inv .4) (c .loop-test .left) in
     c .before .loop .inv .1 ∙ rw past refl
 
@@ -212,16 +228,19 @@ block-row-spec =
     cast-to-y
     add-to-y
     cast-texels
-    mul-first
-    mul-first-2
-    add-first
-    mul-first-3
-    add-first-2
-    mul-to
-    mul-to-2
-    add-to
-    mul-to-3
-    add-to-2
+    mul-first-from
+    mul-first-from-2
+    add-first-from
+    mul-first-from-3
+    add-first-from-2
+    mul-first-to
+    mul-first-to-2
+    add-first-to
+    mul-first-to-3
+    add-first-to-2
+    rewrite-texels-requires
+    same-length
+    returns
     loop-holds
     sub-next-block
     next-block-requires
@@ -230,6 +249,6 @@ block-row-spec =
     add-done
     loop-less
     loop-again
-    same-length
     same-length-2
-    returns)
+    same-length-3
+    returns-2)
