@@ -62,8 +62,10 @@ fn codes(checks: &mut Checks, random: &mut XorShift) {
 
 /// Buffers one byte short, exact, and one byte long.
 fn buffer_ends(checks: &mut Checks, random: &mut XorShift) {
-    const EXTENTS: [[u32; 3]; 12] = [
+    const EXTENTS: [[u32; 3]; 14] = [
         [1, 1, 1],
+        [64, 1, 1],
+        [65, 2, 1],
         [2, 1, 1],
         [1, 2, 1],
         [3, 2, 1],
@@ -89,10 +91,11 @@ fn buffer_ends(checks: &mut Checks, random: &mut XorShift) {
     }
 }
 
-/// Every width to 70, then larger frames.
+/// Every width to 70 and those around further multiples of 64, which is how many texels the port
+/// takes at a time, then larger frames.
 fn widths(checks: &mut Checks, random: &mut XorShift) {
     for (from, to) in pairs() {
-        for width in 1..=70 {
+        for width in (1..=70).chain(126..=130).chain(190..=194) {
             let height = 1 + random.below(4) as u32;
             let call = ConvertCall::accepted(random, from, to, [width, height, 1]);
             checks.convert_region(&call);
