@@ -1,8 +1,8 @@
 -- What it is to read texels into a block of A8R8G8B8 words and to write the texels of such words, with the offset that is carried along,
 -- and the laws of one texel more.
 -- Assumes nothing.
-use mathlib.Core.Path.{_≡_, refl, sym, ap, ap₂, _∙_, subst}
-use mathlib.Core.List.{List, _++_}
+use mathlib.Core.Path.{_≡_, refl, sym, ap, _∙_, subst}
+use mathlib.Core.List.{List}
 use mathlib.Core.Logic.{⊎-elim}
 use Prim.Native.Nat.{ℕ, _+_, _*_, _-_, _≤_, _<_}
 use native.Mathlib.Nat.{add-mul, mul-le-mul-right}
@@ -11,12 +11,10 @@ use lib.ListN.{length, getD, set, take, drop, length-drop}
 use lib.Seq.{sets, getD-set-same, getD-set-other}
 use Rattle.words.specs.Little.{number, number-split}
 use Rattle.words.specs.Iterate.{iterate, iterate-step}
-use Rattle.words.specs.Slices.{part-back}
 use Rattle.words.specs.Tests.{lt-or-eq}
 use Rattle.formats.specs.Codes.{R8G8B8, A8R8G8B8, X8R8G8B8}
 use Rattle.formats.specs.Table.{partsOf, bytesOf}
 use Rattle.texels.specs.Texels.{decodedOf, encodedOf, encodedBytes}
-use Rattle.texels.specs.Words.{encoded-length}
 use Rattle.texels.specs.Restored.{with-fourth}
 
 -- n texels of so many bytes, a step apart from byte from on, end within len bytes
@@ -49,6 +47,11 @@ wordOf block k = getD block k 0
 abbrev pub wordIn : (src : List ℕ) (from k : ℕ) → ℕ
 wordIn src from k = number (take 4 (drop (from + k * 4) src))
 
+-- they were written, and the offset carried past them in the source is where the next one lies
+pub record WordsRewritten (src : List ℕ) (from f to n : ℕ) (dst out : List ℕ) (at off : ℕ) : Type 0 where
+  pub written : WordsWritten (wordIn src from) f to n dst out off
+  pub carried : at ≡ from + n * 4
+
 -- ---- one texel more
 -- the step is added once more
 pub once-more : (from step i off : ℕ) → off ≡ from + i * step → off + step ≡ from + (i + 1) * step
@@ -69,14 +72,6 @@ read-more src f step from i block off w b h e = record {
       (lt-or-eq k i (omega (arith, l)));
   carried = once-more from step i off (b .carried);
 }
-
--- the part that was lent for a word's texel, back in its place
-pub word-back : (dst : List ℕ) (f off w : ℕ) (part : List ℕ) → off + bytesOf f ≤ length dst → part ≡ sets (take (length dst - off) (drop off dst)) 0 (encodedBytes f (decodedOf A8R8G8B8 w))
-    → take off dst ++ (part ++ drop (length dst - off) (drop off dst)) ≡ sets dst off (encodedBytes f (decodedOf A8R8G8B8 w))
-word-back dst f off w part h e =
-    let t = decodedOf A8R8G8B8 w in
-    ap (λ (l : List ℕ). take off dst ++ (l ++ drop (length dst - off) (drop off dst))) e
-    ∙ part-back dst off (length dst - off) (encodedBytes f t) refl (omega (arith, h, encoded-length f t))
 
 pub write-more : (word : ℕ → ℕ) (f size to i : ℕ) (dst₀ dst out : List ℕ) (off : ℕ) → size ≡ bytesOf f → WordsWritten word f to i dst₀ dst off
     → out ≡ sets dst off (encodedBytes f (decodedOf A8R8G8B8 (word i))) → WordsWritten word f to (i + 1) dst₀ out (off + size)

@@ -1,9 +1,10 @@
-// Blocks of 64 A8R8G8B8 words, by which texels go from one format into another: they are read into a block from their source's
-// bytes, and written from it in their destination's format. A loop is lent its texel's own bytes and carries their offset, to which it
-// adds the texel size. specs/Blocks has what it is to read and to write a block.
+// Blocks of A8R8G8B8 words, by which texels go from one format into another: they are read into a block from their source's bytes,
+// and written from it in their destination's format. A loop carries the offset of its texel and adds the texel size; the decoder and
+// the encoder are lent the part that starts there. specs/Blocks has what it is to read and to write a block.
+// Ported from pixel_convert.rs of athei/mtld3d (an altered version, see NOTICE).
 ghost use mathlib.Core.Path.{_≡_};
 ghost use mathlib.Core.Bool.{true};
-ghost use Prim.Native.Nat.{ℕ, _+_, _*_, _≤_, _<_};
+ghost use Prim.Native.Nat.{_+_, _*_, _≤_, _<_};
 ghost use lib.ListN.{length};
 ghost use Rattle.formats.specs.Codes.{R8G8B8};
 ghost use Rattle.formats.specs.Table.{bytesOf};

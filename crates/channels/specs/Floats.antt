@@ -116,19 +116,19 @@ unfolding ofFields
 sign-fields zero t = sign-odd 24 t 0 149
 sign-fields (suc x) t = sign-cond (eqb (suc x) 255) (eqb t 0) (odd 24 true (8388608 + t) x 149) (sign-odd 24 (8388608 + t) x 149)
 
-pub negative-pattern : (b : ℕ) → 2147483648 ≤ b → clamped (ofBits binary32 b) ≡ 0 over 1
+negative-pattern : (b : ℕ) → 2147483648 ≤ b → clamped (ofBits binary32 b) ≡ 0 over 1
 negative-pattern b h =
     ap clamped (ofBits-is b ∙ ap (λ (s : Bool). ofFields binary32 s (b % 2147483648 / 8388608) (b % 8388608)) (is-true (leb 2147483648 b) (le→leb 2147483648 b h)))
     ∙ sign-fields (b % 2147483648 / 8388608) (b % 8388608)
 
 -- a NaN: 0
-pub nan-clamped : (x : Float) → T (isNan x) → clamped x ≡ 0 over 1
+nan-clamped : (x : Float) → T (isNan x) → clamped x ≡ 0 over 1
 unfolding isNan
 nan-clamped nan t = refl
 nan-clamped (inf s) t = absurd t
 nan-clamped (fin s m e) t = absurd t
 
-pub nan-pattern : (b : ℕ) → 2139095040 < b → b < 2147483648 → clamped (ofBits binary32 b) ≡ 0 over 1
+nan-pattern : (b : ℕ) → 2139095040 < b → b < 2147483648 → clamped (ofBits binary32 b) ≡ 0 over 1
 nan-pattern b h k =
     nan-clamped (ofBits binary32 b)
     (subst T (nanBits-is binary32 b) (subst T (sym (nanBits-above binary32 b)) (lt→ltb 2139095040 (b % 2147483648) (subst (λ (z : ℕ). 2139095040 < z) (sym (mod-eq-of-lt k)) h))))

@@ -168,7 +168,7 @@ pub fn snorm8_to_unorm8(v: u32) -> u8
     nearest_byte(not_negative8(v % 256), 127)
 }
 
-// A sixteen-bit code as the nearest byte: a product and a shift stand for the division by 257, which is odd, so there is no tie.
+// A sixteen-bit code as the nearest byte: a product and a quotient by 65536 stand for the division by 257, which is odd, so there is no tie.
 pub fn unorm16_to_unorm8(v: u16) -> u8
     ensures is { λ r. ⌜ r ≡ rounded v 257 ⌝ }
     ensures nearest { λ r. ⌜ Nearest v 257 r ⌝ }

@@ -83,7 +83,7 @@ unfolding isArgbSource bytesOf partsOf
 argb-some f h = ltb→lt 0 (bytesOf f) (listed-at (λ g. ltb 0 (bytesOf g)) argbSources tt f h)
 
 -- among them are those of whole numbers
-pub code-argb : (f : ℕ) → isCodeSource f ≡ true → isArgbSource f ≡ true
+code-argb : (f : ℕ) → isCodeSource f ≡ true → isArgbSource f ≡ true
 unfolding isCodeSource isArgbSource
 code-argb f h = go (eqb f A32B32G32R32F)
   where

@@ -9,9 +9,7 @@ use lib.Dec.{eqb}
 use lib.ListN.{length, getD}
 use borrow.Author.Tests.{eqb-true, eq-eqb}
 use Rattle.words.specs.Iterate.{iterate-keeps}
-use Rattle.formats.specs.Codes.{A8R8G8B8}
 use Rattle.formats.specs.Classes.{isConvertibleRgb, isPackedYuv, isPlanarYuv, isArgbSource, isLaneSource}
-use Rattle.formats.specs.Listed.{argb-only}
 use Rattle.pixel_convert.specs.declared.ConvertRegion.{ConvertRegion}
 use Rattle.pixel_convert.specs.declared.ConvertReply.{ConvertReply}
 use Rattle.pixel_convert.specs.declared.ConvertReply.the-variants.{Accepted, Unsupported, PlanarShape, SourceOutside, DestinationOutside}
@@ -38,20 +36,6 @@ convert-picture s d h = go (isConvertibleRgb s) (isPackedYuv s) (isConvertibleRg
 pub rgb-picture : (d : ℕ) → isConvertibleRgb d ≡ true → isPicture d ≡ true
 unfolding isPicture isLaneSource
 rgb-picture d h = rw h refl
-
--- a source of A8R8G8B8 alone converts into that
-pub argb-into : (s d : ℕ) → canConvert s d ≡ true → isArgbSource s ≡ true → d ≡ A8R8G8B8
-unfolding canConvert canConvertUpdate
-argb-into s d h w =
-    let o = argb-only s w in
-    eqb-true d A8R8G8B8 (go (isConvertibleRgb s) (isPackedYuv s) (isPlanarYuv s) (eqb d A8R8G8B8) (isConvertibleRgb d) (isArgbSource s) (o .0) (o .1) (o .2) h)
-  where
-    go : (a k p e b v : Bool) → a ≡ false → k ≡ false → p ≡ false → (((a || k) && b) || (e && v) || (p && b)) ≡ true → e ≡ true
-    go false false false true b v x y z h = refl
-    go false false false false b v x y z h = h
-    go false false true e b v x y z h = absurd (false≢true (sym z))
-    go false true p e b v x y z h = absurd (false≢true (sym y))
-    go true k p e b v x y z h = absurd (false≢true (sym x))
 
 -- ---- an empty region
 none-empty : (r : ConvertRegion) → isEmpty r ≡ true → (z row col : ℕ) → InRegion r z row col → ⊥

@@ -1,10 +1,10 @@
 -- A row by blocks: the offsets that are carried along it are the ones worked out afresh, and reading and writing its blocks writes its texels.
 -- Assumes nothing.
-use mathlib.Core.Path.{_≡_, refl, sym, ap, ap₂, _∙_, subst}
+use mathlib.Core.Path.{_≡_, sym, ap, ap₂, _∙_, subst}
 use mathlib.Core.Bool.{true}
 use mathlib.Core.List.{List}
 use Prim.Native.Nat.{ℕ, _+_, _*_, _-_, _≤_, _<_}
-use native.Mathlib.Nat.{zero-add, add-zero, add-mul, add-assoc}
+use native.Mathlib.Nat.{zero-add, add-zero, one-mul, add-mul, add-assoc}
 use native.Mathlib.Omega.{arith}
 use lib.ListN.{length, take, drop}
 use lib.Seq.{sets}
@@ -42,14 +42,26 @@ along pitch slice-pitch size z y x col k =
     ∙ sym (ap (λ n. z * slice-pitch + y * pitch + n) (add-mul (x + col) k size))
     ∙ ap (λ n. z * slice-pitch + y * pitch + n * size) (add-assoc x col k)
 
+-- one offset alone
+pub record CarriedAt (f pitch slice-pitch z y x col off : ℕ) : Type 0 where
+  pub afresh : off ≡ texelStart pitch slice-pitch (bytesOf f) z y (x + col)
+
+module _ (f pitch slice-pitch z y x size : ℕ) (e : size ≡ bytesOf f) where
+  pub at-first : CarriedAt f pitch slice-pitch z y x 0 (z * slice-pitch + y * pitch + x * size)
+  unfolding texelStart
+  at-first = record { afresh = ap₂ (λ a b. z * slice-pitch + y * pitch + a * b) (sym (add-zero x)) e }
+
+  -- adding the texel size once
+  pub at-next : (col off : ℕ) → CarriedAt f pitch slice-pitch z y x col off → CarriedAt f pitch slice-pitch z y x (col + 1) (off + size)
+  at-next col off c = record { afresh = ap₂ _+_ (c .afresh) (e ∙ sym (one-mul (bytesOf f))) ∙ along pitch slice-pitch (bytesOf f) z y x col 1 }
+
 module _ (s d sp ss dp ds z sy dy sx dx : ℕ) where
   -- a row starts with the offsets of its first texel
   pub carried-first : (from-size to-size : ℕ) → from-size ≡ bytesOf s → to-size ≡ bytesOf d
       → Carried s d sp ss dp ds z sy dy sx dx 0 (z * ss + sy * sp + sx * from-size) (z * ds + dy * dp + dx * to-size)
-  unfolding texelStart
   carried-first from-size to-size e f = record {
-    source = ap₂ (λ a b. z * ss + sy * sp + a * b) (sym (add-zero sx)) e;
-    destination = ap₂ (λ a b. z * ds + dy * dp + a * b) (sym (add-zero dx)) f;
+    source = at-first s sp ss z sy sx from-size e .afresh;
+    destination = at-first d dp ds z dy dx to-size f .afresh;
   }
 
   -- adding the texel size k times keeps them so
@@ -79,8 +91,8 @@ module _ (src : List ℕ) (m s d : ℕ) (r : ConvertRegion) (z row : ℕ) (fits 
       ∙ sym (lane-texel src s (r .«src_pitch») (r .«src_slice_pitch») z (r .«src_y» + row) (r .«src_x» + col) (lane-only s lane .0) (lane-only s lane .1) (source-ends col h))
 
   module _ (col n from to : ℕ) (c : CarriedIn s d r z row col from to) (some : 0 < n) (within : col + n ≤ r .width) where
-    -- after k texels more
-    at-texel : (k : ℕ) → CarriedIn s d r z row (col + k) (from + k * bytesOf s) (to + k * bytesOf d)
+    -- AT EACH TEXEL: k texels on, both carried offsets are the ones worked out afresh
+    pub at-texel : (k : ℕ) → CarriedIn s d r z row (col + k) (from + k * bytesOf s) (to + k * bytesOf d)
     at-texel k = carried-on s d (r .«src_pitch») (r .«src_slice_pitch») (r .«dst_pitch») (r .«dst_slice_pitch») z (r .«src_y» + row) (r .«dst_y» + row) (r .«src_x») (r .«dst_x») col from to k c
 
     -- the block's last texel ends within both buffers

@@ -1,8 +1,8 @@
 // Conversion of a region of texels from one format into another: the RGB formats into each other, packed and planar YUV into RGB,
 // and wide, ten-bit, 16-bit and signed formats into A8R8G8B8. Refused, before any byte is written: a pair that does not convert, a planar
 // source that is no single slice of whole rows, and a region with a texel outside the source or the destination. specs/Regions has
-// the reply, the bytes and what is promised of them; what texels decode and encode to is in the crate `texels`, where they lie in
-// `places`.
+// the reply, the bytes and what is promised of them; what texels decode and encode to is in the crate `texels`, how they go by
+// blocks in `blocks`, where they lie in `places`.
 // Ported from pixel_convert.rs of athei/mtld3d (an altered version, see NOTICE).
 ghost use mathlib.Core.Path.{_≡_};
 ghost use mathlib.Core.Bool.{true, false, _&&_};
@@ -125,28 +125,10 @@ fn fetch(
     texels::decode_pixel(d3d_format, &src[from..])
 }
 
-// A texel's bytes at slice z, row y and column x; `size` is their number.
-fn store(
-    dst: &mut [u8],
-    d3d_format: u32,
-    size: usize,
-    pitch: usize,
-    slice_pitch: usize,
-    z: usize,
-    y: usize,
-    x: usize,
-    t: Texel,
-)
-    requires { ⌜ (isConvertibleRgb «d3d_format» ≡ true) × (size ≡ bytesOf «d3d_format») × (texelStart pitch «slice_pitch» (bytesOf «d3d_format») z y x + bytesOf «d3d_format» ≤ length (now dst)) ⌝ }
-    ensures { λ _. ⌜ now (dst .exit) ≡ sets (now (dst .entry)) (texelStart pitch «slice_pitch» (bytesOf «d3d_format») z y x) (encodedBytes «d3d_format» t) ⌝ }
-{
-    let to = z * slice_pitch + y * pitch + x * size;
-    texels::encode_rgb_pixel(d3d_format, t, &mut dst[to..]);
-}
-
 // ---- a region
 
-// A row of a source that `fetch` takes, texel by texel: each offset is worked out afresh. Rows of YUV are converted so.
+// A row of YUV, texel by texel: the source's places are worked out afresh, and the destination's offset is carried. RGB and binary32
+// would do too, and no row of them comes here (docs/DECISIONS.md has why `fetch` keeps their arm).
 fn texel_row(
     dst: &mut [u8],
     dst_format: u32,
@@ -171,10 +153,12 @@ fn texel_row(
     let ds = region.dst_slice_pitch;
     let width = region.width as usize;
     let layout = places::source_layout(src_format, sp, ss);
+    let mut to = z * ds + dy * dp + dx * to_size;
     let mut col: usize = 0;
     while col < width {
         let t = fetch(src, src_format, from_size, layout, sp, ss, z, sy, sx + col);
-        store(dst, dst_format, to_size, dp, ds, z, dy, dx + col, t);
+        texels::encode_rgb_pixel(dst_format, t, &mut dst[to..]);
+        to += to_size;
         col += 1;
     }
 }
@@ -474,7 +458,7 @@ fn check(
     ConvertReply::Accepted
 }
 
-// Converts a region of `src` into `dst`, texel by texel, by slice, row and column. The reply is decided before the first byte is
+// Converts a region of `src` into `dst`, by slice, row and column. The reply is decided before the first byte is
 // written; refused, `dst` is as it was.
 pub fn convert_region(
     dst: &mut [u8],

@@ -1,16 +1,17 @@
 -- Words of texels: what shifts, masks and quotients of them are, in terms of lanes.
 -- Assumes nothing.
 use mathlib.Core.Path.{_≡_, refl, sym, ap, _∙_, subst}
-use mathlib.Core.List.{List}
-use Prim.Native.Nat.{ℕ, _+_, _*_, _/_, _%_, _^_, _≤_, _<_}
+use mathlib.Core.List.{List, _++_}
+use Prim.Native.Nat.{ℕ, _+_, _*_, _-_, _/_, _%_, _^_, _≤_, _<_}
 use native.Mathlib.Omega.{arith}
 use native.Mathlib.Nat.{add-comm, mul-comm}
 use lib.Bits.{bitOr, or-shifted}
 use lib.Pow.{high, low, shl-exact}
 use lib.Dec.{lit<}
 use lib.ListN.{length, take, drop, length-drop}
-use lib.Seq.{length-take-le}
+use lib.Seq.{sets, length-take-le}
 use Rattle.words.specs.Little.{Small, number, number-split, number-lt, small-take, small-drop, length-bytes}
+use Rattle.words.specs.Slices.{part-back}
 use Rattle.formats.specs.Lanes.{codeAt}
 use Rattle.channels.specs.Expansion.{expanded, two-copies, truncated, truncates}
 use Rattle.channels.specs.Nearest.{rounded, rounded-same}
@@ -60,3 +61,10 @@ padding-bit = refl
 pub encoded-length : (f : ℕ) (t : Texel) → length (encodedBytes f t) ≡ bytesOf f
 unfolding encodedBytes
 encoded-length f t = length-bytes (bytesOf f) (encodedOf f t)
+
+-- the part of a buffer that was lent for a texel, back in its place
+pub texel-back : (dst : List ℕ) (f off : ℕ) (t : Texel) (part : List ℕ) → off + bytesOf f ≤ length dst → part ≡ sets (take (length dst - off) (drop off dst)) 0 (encodedBytes f t)
+    → take off dst ++ (part ++ drop (length dst - off) (drop off dst)) ≡ sets dst off (encodedBytes f t)
+texel-back dst f off t part h e =
+    ap (λ (l : List ℕ). take off dst ++ (l ++ drop (length dst - off) (drop off dst))) e
+    ∙ part-back dst off (length dst - off) (encodedBytes f t) refl (omega (arith, h, encoded-length f t))

@@ -250,7 +250,7 @@ fn decode_q8w8v8u8(v: u32) -> Texel
     }
 }
 
-// Four 16-bit channels, each the nearest byte. Two are read at a time, which the compiler does for several texels at once.
+// Four 16-bit channels, each the nearest byte. Two are read at a time, so that the compiler can take several texels at once.
 fn decode_a16b16g16r16(px: &[u8]) -> Texel
     requires { ⌜ 8 ≤ length (now px) ⌝ }
     ensures { λ r. ⌜ r ≡ decodedOf A16B16G16R16 (number (take 8 (now (px .entry)))) ⌝ }

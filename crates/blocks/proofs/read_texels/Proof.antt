@@ -1,5 +1,5 @@
 -- `blocks::read_texels` meets its contract: by the arm that has the format. Assumes nothing.
-use mathlib.Core.Path.{_≡_, refl, sym, ap₂, _∙_}
+use mathlib.Core.Path.{refl, sym, ap₂, _∙_}
 use mathlib.Core.Bool.{_||_, false≢true}
 use mathlib.Core.List.{_++_}
 use native.Mathlib.Nat.{le-refl}

@@ -1,6 +1,6 @@
 -- `blocks::write_block` meets its contract: texel by texel, with the offset carried. Assumes nothing.
 use mathlib.Core.Path.{_≡_, refl, sym, ap, _∙_, subst}
-use Prim.Native.Nat.{ℕ, _+_, _*_, _-_, _≤_, _<_}
+use Prim.Native.Nat.{ℕ, _+_, _-_, _≤_}
 use native.Mathlib.Nat.{le-antisymm}
 use native.Mathlib.Omega.{arith}
 use lib.ListN.{length, length-take, length-drop}
@@ -10,7 +10,8 @@ use Rattle.words.specs.Iterate.{iterate-zero}
 use Rattle.formats.specs.Codes.{A8R8G8B8}
 use Rattle.formats.specs.Table.{bytesOf}
 use Rattle.texels.specs.Texels.{decodedOf, encodedBytes}
-use Rattle.blocks.specs.Blocks.{WordsWritten, wordOf, word-back, write-more, each-in}
+use Rattle.texels.specs.Words.{texel-back}
+use Rattle.blocks.specs.Blocks.{WordsWritten, wordOf, write-more, each-in}
 use borrow.Author.Needs.{needs}
 use Rattle.blocks.proofs.write_block.Statement.{statement}
 use Rattle.blocks.proofs.write_block.Tie as tie
@@ -77,7 +78,7 @@ loop-again c =
     let l = i .before .loop in
     let dst = l .dst in
     let w = wordOf (now (g .block)) (l .i) in
-    let e = word-back dst (g .d3d-format) (l .off) w _ (room i) (c .before .before .write-word .ensures) in (
+    let e = texel-back dst (g .d3d-format) (l .off) (decodedOf A8R8G8B8 w) _ (room i) (c .before .before .write-word .ensures) in (
       write-more (wordOf (now (g .block))) (g .d3d-format) (g .size) (g .to) (l .i) (now (g .dst)) dst _ (l .off) (start i .pre .1) (l .inv .0) e,
       omega (arith, i .loop-test .taken),
       ap length e ∙ length-sets dst (l .off) (encodedBytes (g .d3d-format) (decodedOf A8R8G8B8 w)) ∙ l .inv .2,

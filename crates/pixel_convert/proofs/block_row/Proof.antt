@@ -1,7 +1,7 @@
 -- `pixel_convert::block_row` meets its contract: block by block, with both offsets carried. Assumes nothing.
 use mathlib.Core.Path.{_≡_, refl, sym, ap, _∙_, subst}
 use Prim.Native.Nat.{ℕ, _+_, _*_, _-_, _≤_, _<_, min}
-use native.Mathlib.Nat.{le-antisymm, min-le-left, min-le-right}
+use native.Mathlib.Nat.{le-antisymm}
 use native.Mathlib.Omega.{arith}
 use lib.ListN.{length}
 use lib.Seq.{sets}

@@ -1,10 +1,10 @@
 -- `pixel_convert::texel_row` meets its contract: column by column. Assumes nothing.
-use mathlib.Core.Path.{_≡_, refl, sym, ap, _∙_, subst}
+use mathlib.Core.Path.{_≡_, refl, sym, ap, ap₂, _∙_, subst}
 use mathlib.Core.List.{List}
-use Prim.Native.Nat.{ℕ, _+_, _-_, _≤_}
+use Prim.Native.Nat.{ℕ, _+_, _*_, _-_, _≤_}
 use native.Mathlib.Nat.{le-antisymm}
 use native.Mathlib.Omega.{arith}
-use lib.ListN.{length}
+use lib.ListN.{length, length-take, length-drop}
 use lib.Seq.{sets, length-sets}
 use denote.Ref.{now}
 use Rattle.words.specs.Iterate.{iterate, iterate-zero, iterate-step}
@@ -14,18 +14,21 @@ use Rattle.texels.specs.Texels.{encodedBytes}
 use Rattle.places.specs.Inside.{TexelFits}
 use Rattle.places.specs.Places.{texelStart}
 use Rattle.pixel_convert.specs.Regions.{toAt, texelAt, sourceTexel, written, rowWritten}
+use Rattle.texels.specs.Words.{texel-back}
 use Rattle.pixel_convert.specs.Promises.{convert-rgb}
+use Rattle.pixel_convert.specs.Carried.{CarriedAt, at-first, at-next}
 use Rattle.pixel_convert.specs.Answers.{convert-picture}
 use borrow.Author.Needs.{needs}
 use Rattle.pixel_convert.proofs.texel_row.Statement.{statement}
 use Rattle.pixel_convert.proofs.texel_row.Tie as tie
 
 abbrev Inv-loop : tie.InvT-loop
-Inv-loop dst₀ dst-format to-size src src-format from-size z row sx dx sy dy sp dp ss ds width layout col₀ dst col =
-    (dst ≡ iterate (λ k l. sets l (texelStart dp ds (bytesOf dst-format) z dy (dx + k)) (encodedBytes dst-format (texelAt src src-format sp ss z sy (sx + k)))) col dst₀) × (length dst ≡ length dst₀) × (col ≤ width)
+Inv-loop dst₀ dst-format to-size src src-format from-size z row sx dx sy dy sp dp ss ds width layout to₀ col₀ dst to col =
+    CarriedAt dst-format dp ds z dy dx col to
+    × (dst ≡ iterate (λ k l. sets l (texelStart dp ds (bytesOf dst-format) z dy (dx + k)) (encodedBytes dst-format (texelAt src src-format sp ss z sy (sx + k)))) col dst₀) × (length dst ≡ length dst₀) × (col ≤ width)
 
 abbrev μ-loop : tie.MeasureT-loop
-μ-loop dst₀ dst-format to-size src src-format from-size z row sx dx sy dy sp dp ss ds width layout col₀ dst col = width - col
+μ-loop dst₀ dst-format to-size src src-format from-size z row sx dx sy dy sp dp ss ds width layout to₀ col₀ dst to col = width - col
 
 abbrev In : Type 0
 In = tie.In-loop Inv-loop μ-loop
@@ -61,8 +64,43 @@ cast-width c = search needs
 source-layout-requires : tie.Need-source-layout-requires Inv-loop μ-loop
 source-layout-requires c κs = search needs
 
+abbrev Begun : Type 0
+Begun = tie.After-source-layout Inv-loop μ-loop
+
+abbrev entry : Begun → tie.Start Inv-loop μ-loop
+entry c = c .before .before .before .before .before .before .before .before
+
+-- the row's first offset lies within the destination
+to-fits : (c : Begun) → entry c .args .z * entry c .args .region .«dst_slice_pitch» + (entry c .args .region .«dst_y» + entry c .args .row) * entry c .args .region .«dst_pitch» + entry c .args .region .«dst_x» * entry c .args .to-size ≤ length (now (entry c .args .dst))
+unfolding toAt
+to-fits c =
+    let s = entry c in
+    let g = s .args in
+    let r = g .region in
+    let first = at-first (g .dst-format) (r .«dst_pitch») (r .«dst_slice_pitch») (g .z) (r .«dst_y» + g .row) (r .«dst_x») (g .to-size) (s .pre .3) in
+    omega (arith, first .afresh, s .pre .0 .destination 0 (s .pre .0 .rows .0))
+
+mul-to : tie.Need-mul-to Inv-loop μ-loop
+mul-to c = omega (arith, to-fits c)
+
+mul-to-2 : tie.Need-mul-to-2 Inv-loop μ-loop
+mul-to-2 c = omega (arith, to-fits c)
+
+add-to : tie.Need-add-to Inv-loop μ-loop
+add-to c = omega (arith, to-fits c)
+
+mul-to-3 : tie.Need-mul-to-3 Inv-loop μ-loop
+mul-to-3 c = omega (arith, to-fits c)
+
+add-to-2 : tie.Need-add-to-2 Inv-loop μ-loop
+add-to-2 c = omega (arith, to-fits c)
+
 loop-holds : tie.Need-loop-holds Inv-loop μ-loop
-loop-holds c = (sym (iterate-zero _ _), refl, search needs)
+loop-holds c =
+    let s = entry c in
+    let g = s .args in
+    let r = g .region in
+    (at-first (g .dst-format) (r .«dst_pitch») (r .«dst_slice_pitch») (g .z) (r .«dst_y» + g .row) (r .«dst_x») (g .to-size) (s .pre .3), sym (iterate-zero _ _), refl, search needs)
 
 add-fetch : tie.Need-add-fetch Inv-loop μ-loop
 add-fetch c = omega (arith, source c .column)
@@ -70,14 +108,33 @@ add-fetch c = omega (arith, source c .column)
 fetch-requires : tie.Need-fetch-requires Inv-loop μ-loop
 fetch-requires c κs = (convert-picture (start c .args .src-format) (start c .args .dst-format) (start c .pre .0 .pair), start c .pre .2, c .before .before .source-layout .ensures .1, source c .places, start c .pre .1)
 
-add-store : tie.Need-add-store Inv-loop μ-loop
-add-store c = omega (arith, start (c .before .before) .pre .0 .columns (c .before .before .before .loop .col) (c .before .before .loop-test .taken))
-
-store-requires : tie.Need-store-requires Inv-loop μ-loop
+-- this turn's texel ends within the destination
+room : (c : In) → c .before .loop .to + bytesOf (start c .args .dst-format) ≤ length (c .before .loop .dst)
 unfolding toAt
-store-requires c κs =
+room c =
+    let g = start c .args in
+    let l = c .before .loop in
+    subst (λ (m : ℕ). l .to + bytesOf (g .dst-format) ≤ m) (sym (l .inv .2))
+    (subst (λ (k : ℕ). k + bytesOf (g .dst-format) ≤ length (now (g .dst))) (sym (l .inv .0 .afresh)) (start c .pre .0 .destination (l .col) (c .loop-test .taken)))
+
+sub-encode-rgb-pixel : tie.Need-sub-encode-rgb-pixel Inv-loop μ-loop
+sub-encode-rgb-pixel c = omega (arith, room (c .before))
+
+part-encode-rgb-pixel-start : tie.Need-part-encode-rgb-pixel-start Inv-loop μ-loop
+part-encode-rgb-pixel-start c = omega (arith, room (c .before))
+
+part-encode-rgb-pixel-end : tie.Need-part-encode-rgb-pixel-end Inv-loop μ-loop
+part-encode-rgb-pixel-end c = search needs
+
+encode-rgb-pixel-requires : tie.Need-encode-rgb-pixel-requires Inv-loop μ-loop
+encode-rgb-pixel-requires c κs =
     let i = c .before .before in
-    (convert-rgb (start i .args .src-format) (start i .args .dst-format) (start i .pre .0 .pair), start i .pre .3, subst (λ (m : ℕ). toAt (start i .args .dst-format) (start i .args .region) (start i .args .z) (start i .args .row) (i .before .loop .col) + bytesOf (start i .args .dst-format) ≤ m) (sym (i .before .loop .inv .1)) (start i .pre .0 .destination (i .before .loop .col) (i .loop-test .taken)))
+    (convert-rgb (start i .args .src-format) (start i .args .dst-format) (start i .pre .0 .pair), simp (length-take, length-drop) (omega (arith, room i)))
+
+add-to-3 : tie.Need-add-to-3 Inv-loop μ-loop
+add-to-3 c =
+    let i = c .before .before .before .before .before in
+    omega (arith, room i, start i .pre .3, start i .good .0, i .before .loop .inv .2)
 
 add-col : tie.Need-add-col Inv-loop μ-loop
 add-col c = omega (arith, source (c .before .before .before .before .before) .column)
@@ -88,16 +145,19 @@ loop-less c = search needs
 loop-again : tie.Need-loop-again Inv-loop μ-loop
 loop-again c =
     let i = c .before .before .before .before .before in
-    let g = start i .args in
+    let s = start i in
+    let g = s .args in
     let r = g .region in
-    let col = i .before .loop .col in
-    let dst = i .before .loop .dst in
+    let l = i .before .loop in
     let at : ℕ → ℕ = λ k. texelStart (r .«dst_pitch») (r .«dst_slice_pitch») (bytesOf (g .dst-format)) (g .z) (r .«dst_y» + g .row) (r .«dst_x» + k) in
     let t : ℕ → Texel = λ k. texelAt (now (g .src)) (g .src-format) (r .«src_pitch») (r .«src_slice_pitch») (g .z) (r .«src_y» + g .row) (r .«src_x» + k) in
     let f : ℕ → List ℕ → List ℕ = λ k l. sets l (at k) (encodedBytes (g .dst-format) (t k)) in
-    let e = c .before .before .store .ensures ∙ ap (λ (x : Texel). sets dst (at col) (encodedBytes (g .dst-format) x)) (c .before .before .before .before .fetch .ensures) in (
-      iterate-step f col (now (g .dst)) dst _ (i .before .loop .inv .0) e,
-      ap length e ∙ length-sets dst (at col) (encodedBytes (g .dst-format) (t col)) ∙ i .before .loop .inv .1,
+    let fetched = c .before .before .before .before .fetch in
+    let e = texel-back (l .dst) (g .dst-format) (l .to) (fetched .result) _ (room i) (c .before .before .encode-rgb-pixel .ensures)
+    ∙ ap₂ (λ (k : ℕ) (x : Texel). sets (l .dst) k (encodedBytes (g .dst-format) x)) (l .inv .0 .afresh) (fetched .ensures) in (
+      at-next (g .dst-format) (r .«dst_pitch») (r .«dst_slice_pitch») (g .z) (r .«dst_y» + g .row) (r .«dst_x») (g .to-size) (s .pre .3) (l .col) (l .to) (l .inv .0),
+      iterate-step f (l .col) (now (g .dst)) (l .dst) _ (l .inv .1) e,
+      ap length e ∙ length-sets (l .dst) (at (l .col)) (encodedBytes (g .dst-format) (t (l .col))) ∙ l .inv .2,
       omega (arith, i .loop-test .taken),
     )
 
@@ -107,8 +167,8 @@ same-length c = search needs
 returns : tie.Need-returns Inv-loop μ-loop
 unfolding rowWritten written toAt sourceTexel
 returns c =
-    let past = le-antisymm (c .before .loop .inv .2) (c .loop-test .left) in
-    c .before .loop .inv .0 ∙ rw past refl
+    let past = le-antisymm (c .before .loop .inv .3) (c .loop-test .left) in
+    c .before .loop .inv .1 ∙ rw past refl
 
 pub texel-row-spec : {M : Type 1} → statement M
 texel-row-spec =
@@ -124,11 +184,19 @@ texel-row-spec =
     add-dy
     cast-width
     source-layout-requires
+    mul-to
+    mul-to-2
+    add-to
+    mul-to-3
+    add-to-2
     loop-holds
     add-fetch
     fetch-requires
-    add-store
-    store-requires
+    sub-encode-rgb-pixel
+    part-encode-rgb-pixel-start
+    part-encode-rgb-pixel-end
+    encode-rgb-pixel-requires
+    add-to-3
     add-col
     loop-less
     loop-again

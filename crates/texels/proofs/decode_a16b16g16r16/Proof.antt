@@ -1,5 +1,5 @@
 -- `texels::decode_a16b16g16r16` meets its contract: each half of a word of four bytes is the lane of the table. Assumes nothing.
-use mathlib.Core.Path.{_≡_, sym, ap, _∙_, subst}
+use mathlib.Core.Path.{_≡_, ap, _∙_, subst}
 use mathlib.Core.List.{List}
 use Prim.Native.Nat.{ℕ, _+_, _*_, _/_, _%_, _^_, _<_}
 use native.Mathlib.Omega.{arith}
