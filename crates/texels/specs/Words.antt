@@ -27,9 +27,13 @@ expanded-eight k h = two-copies 8 (omega arith) (omega arith) k h ∙ omega arit
 pub sixteen : (k : ℕ) → rounded k 257 ≡ rounded (255 * k) 65535
 sixteen k = rounded-same k 257 (255 * k) 65535 (lit< tt) (lit< tt) (omega arith)
 
--- `(v << k) | rest` on a u16, where v has n bits and rest k
+-- `(v << k) | rest` on a word of w bits, where v has n bits and rest k
+pub onto : (w v n k rest : ℕ) → v < 2 ^ n → n + k ≤ w → rest < 2 ^ k → bitOr (v * 2 ^ k % 2 ^ w) rest ≡ v * 2 ^ k + rest
+onto w v n k rest h l r = ap (λ x. bitOr x rest) (shl-exact n k w h l) ∙ or-shifted v k rest r
+
+-- on a u16
 pub part-onto : (v n k rest : ℕ) → v < 2 ^ n → n + k ≤ 16 → rest < 2 ^ k → bitOr (v * 2 ^ k % 2 ^ 16) rest ≡ v * 2 ^ k + rest
-part-onto v n k rest h l r = ap (λ x. bitOr x rest) (shl-exact n k 16 h l) ∙ or-shifted v k rest r
+part-onto = onto 16
 
 -- a byte's top n bits are a code of n bits
 pub code-fits : (n v k : ℕ) → n ≤ 8 → v < 256 → k ≡ truncated n v → k < 2 ^ n

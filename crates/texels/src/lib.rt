@@ -455,10 +455,10 @@ pub fn read_word(d3d_format: u32, px: &[u8]) -> u32
 fn word_r5g6b5(word: u32) -> u16
     ensures { λ r. ⌜ r ≡ encodedOf R5G6B5 (decodedOf A8R8G8B8 word) ⌝ }
 {
-    let r5 = (word >> 19) % 32;
-    let g6 = (word >> 10) % 64;
-    let b5 = (word >> 3) % 32;
-    (r5 * 2048 + g6 * 32 + b5) as u16
+    let r5 = (word >> 19) & 0x1f;
+    let g6 = (word >> 10) & 0x3f;
+    let b5 = (word >> 3) & 0x1f;
+    ((r5 << 11) | ((g6 << 5) | b5)) as u16
 }
 
 // The bytes of a word's texel at the front of `out`, in one of the RGB formats.
