@@ -144,7 +144,7 @@ uint32_t wentuqis_d3dcolor_fill_pixel_bytes(uint32_t color, uint32_t format, uin
 void wentuqis_splat_pixel_pattern(uint8_t *dst, size_t dst_len, const uint8_t *pixel, size_t pixel_len);
 
 /* The binary16 number nearest to a binary32 one, ties to even, both as their bits. Never refuses.
- * The sign stays: magnitudes below 2^-24 give zero, from 65520 on infinity, a NaN gives 0x7e00. */
+ * The sign stays: magnitudes up to 2^-25 give zero, from 65520 on infinity, a NaN gives 0x7e00. */
 uint16_t wentuqis_f32_to_f16_bits(uint32_t bits);
 
 /* Red, green, blue and alpha of a D3DCOLOR (0xAARRGGBB), each divided by 255.

@@ -1,5 +1,6 @@
 //! What the original answers to a call, for those who record its answers and those who compare. It
-//! is not asked of the pairs that document 02 adds: paper.rs and stills.rs answer for these.
+//! is not asked where document 02 departs from it: paper.rs and stills.rs answer for the pairs that
+//! are added, and the C compiler for the binary16 codes that are others.
 
 use original::{
     depth_texture::{PackedDepth, PlaneLayout},
@@ -46,6 +47,11 @@ pub fn convert(call: &ConvertCall) -> (bool, Vec<u8>) {
         &ConvertRegion::from(&call.region),
     );
     (accepted, dst)
+}
+
+unsafe extern "C" {
+    /// The binary16 code of binary32 bits by the C compiler's own conversion (float16.c).
+    pub safe fn compiler_f32_to_f16_bits(bits: u32) -> u16;
 }
 
 impl From<&Planes> for PlaneLayout {

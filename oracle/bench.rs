@@ -1,7 +1,7 @@
 //! Usage: bench [--markdown FILE] [WORD..]
 //! Measures conversions and depth transfers of a 4096 x 2160 frame, conversions of as many texels
-//! in rows of 16, and splats of as many 4-byte texels, in nanoseconds a texel, on one thread: every
-//! work, or those whose name has one of the words. Among the conversions is every pair of RGB
+//! in rows of 16, splats of as many 4-byte texels, and as many numbers to binary16, a call for each,
+//! in nanoseconds a texel, on one thread: every work, or those whose name has one of the words. Among the conversions is every pair of RGB
 //! formats, a format to itself too. Each row of the table is one piece of work and each column a
 //! route that does it; `ours`, and its ratio to the original, stand where the port is linked, and
 //! `memcpy` copies as many bytes as the work writes. The original has no number where it refuses. A
@@ -29,7 +29,7 @@ use std::{
 
 use common::{XorShift, random_bytes, random_units, whole_frame};
 use original::{
-    convert::splat_pixel_pattern,
+    convert::{f32_to_f16_bits, splat_pixel_pattern},
     depth_texture::{PackedDepth, PlaneLayout},
     pixel_convert::{ConvertRegion, convert_region},
 };
@@ -102,6 +102,21 @@ const DEPTHS: [(&str, u32); 3] = [
 
 /// Bytes of the patterns that are splatted.
 const PATTERNS: [usize; 6] = [1, 2, 3, 4, 8, 16];
+
+/// Numbers that go to binary16, by name.
+type Fog = (&'static str, fn() -> Vec<f32>);
+
+const FOGS: [Fog; 2] = [
+    // From 1 down to 2^-30, each number the same part of the one before.
+    ("a fog ramp", || {
+        let power = |texel| -30.0 * texel as f32 / TEXELS as f32;
+        (0..TEXELS).map(|texel| power(texel).exp2()).collect()
+    }),
+    ("random fog", || {
+        let mut random = XorShift::seeded();
+        (0..TEXELS).map(|_| random.next_unit()).collect()
+    }),
+];
 
 /// The greatest ratio of ours to another route that is wanted of some works.
 struct Bar {
@@ -273,6 +288,7 @@ enum Work {
     Pack(&'static str, u32),
     /// Of a pattern of so many bytes.
     Splat(usize),
+    Binary16(Fog),
 }
 
 impl Work {
@@ -283,6 +299,7 @@ impl Work {
             Self::Unpack(name, _) => format!("{name} unpack"),
             Self::Pack(name, _) => format!("{name} pack"),
             Self::Splat(length) => format!("splat of {length}"),
+            Self::Binary16((name, _)) => format!("binary16 of {name}"),
         }
     }
 
@@ -292,6 +309,7 @@ impl Work {
             Self::Unpack(_, code) => unpack(code),
             Self::Pack(_, code) => pack(code),
             Self::Splat(length) => splat(length),
+            Self::Binary16((_, fog)) => binary16(&fog()),
         }
     }
 
@@ -324,6 +342,7 @@ fn works() -> Vec<Work> {
         works.extend([Work::Unpack(name, code), Work::Pack(name, code)]);
     }
     works.extend(PATTERNS.map(Work::Splat));
+    works.extend(FOGS.map(Work::Binary16));
     works
 }
 
@@ -524,6 +543,25 @@ fn splat(pattern: usize) -> Numbers {
         })
     };
     routes.measure(4 * TEXELS)
+}
+
+fn binary16(fog: &[f32]) -> Numbers {
+    let mut codes = vec![0; TEXELS];
+    let routes = Routes::original(move || {
+        for (code, value) in black_box(&mut codes).iter_mut().zip(black_box(fog)) {
+            *code = f32_to_f16_bits(*value);
+        }
+    });
+    #[cfg(port)]
+    let routes = {
+        let mut codes = vec![0; TEXELS];
+        routes.ours(move || {
+            for (code, value) in black_box(&mut codes).iter_mut().zip(black_box(fog)) {
+                *code = port::f32_to_f16_bits(value.to_bits());
+            }
+        })
+    };
+    routes.measure(2 * TEXELS)
 }
 
 /// Writes the tables above what `path` has from its first heading of the second rank on.

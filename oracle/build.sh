@@ -4,8 +4,9 @@
 # those named, or all. The source is the folder ORACLE_SRC, else ../shared/docs/src beside the repository's root; its
 # files lie below windows/core/src. Where there is none, one line says so and the exit status is 3. `compare`, `fuzz` and
 # a `bench` with the port's column need libwentuqis.a in the folder WENTUQIS_LIB_DIR, else in target/staticlib; without
-# it one line says so, which is a failure only where `compare` or `fuzz` is named. What is newer than all that it is made
-# from is left as it is. With --where, only prints the source folder.
+# it one line says so, which is a failure only where `compare` or `fuzz` is named. `record`, `compare` and `fuzz` need a
+# C compiler, cc, that has _Float16. What is newer than all that it is made from is left as it is. With --where, only
+# prints the source folder.
 set -euo pipefail
 
 here=$(cd "$(dirname "${BASH_SOURCE[0]}")" && pwd)
@@ -47,7 +48,7 @@ done
 flags=(--edition 2024 -C opt-level=3 -C codegen-units=1 -C debug-assertions=off -C overflow-checks=off)
 
 # Nothing made from another folder or by another compiler is kept.
-origin="$source, $(rustc --version)"
+origin="$source, $(rustc --version), $(cc --version 2>/dev/null | head -n 1 || true)"
 if [[ ! -f $build/origin || $(<"$build/origin") != "$origin" ]]; then
     rm -rf "$build"
     mkdir -p "$build"
@@ -160,9 +161,18 @@ missing() {
     done < <(grep -o '\bwentuqis_\w*' "$crate/ffi.rs" | sort -u)
 }
 
+# The C compiler's conversion to binary16, for those that ask answers.rs.
+float16=$build/float16.o
+if asked record compare fuzz && ! made "$float16" "$here/float16.c"; then
+    echo 'oracle: building float16.o'
+    cc -std=c11 -O2 -Wall -Wextra -Werror -c "$here/float16.c" -o "$build/unfinished/float16.o" ||
+        fail 'no C compiler, cc, that has _Float16'
+    mv -f "$build/unfinished/float16.o" "$float16"
+fi
+
 common=("$here/common.rs" "$crate/shapes.rs" "$build/liboriginal.rlib")
 program worked_table "${common[@]}" --
-program record "${common[@]}" "$here"/{answers,calls,paper,record_calls,stills}.rs --
+program record "${common[@]}" "$float16" "$here"/{answers,calls,paper,record_calls,stills}.rs -- -C "link-arg=$float16"
 
 # A `bench` over another archive, or over none, is not kept.
 common+=("$here/paper.rs")
@@ -178,9 +188,10 @@ fi
 program bench "${common[@]}" -- --check-cfg 'cfg(port)' "${port[@]}"
 
 if [[ -z $missing ]]; then
-    common+=("$here"/{answers,calls,checks,findings,stills}.rs)
+    common+=("$here"/{answers,calls,checks,findings,stills}.rs "$float16")
     for name in compare fuzz; do
-        program "$name" "${common[@]}" "$here"/parts/*.rs -- --check-cfg 'cfg(port)' "${port[@]}" -C overflow-checks=on
+        program "$name" "${common[@]}" "$here"/parts/*.rs -- \
+            --check-cfg 'cfg(port)' "${port[@]}" -C overflow-checks=on -C "link-arg=$float16"
     done
 elif asked bench compare fuzz; then
     missing="$archive $missing (rt staticlib wentuqis makes it; WENTUQIS_LIB_DIR names another folder)"

@@ -1,6 +1,6 @@
 //! One check for each call of the port: the reply against the documents (paper.rs); acceptance and
 //! every accepted byte against the original, or stills.rs for the pairs that document 02 adds
-//! (answers.rs); that a refusal leaves every lent byte, that what is only read stays, and that
+//! (answers.rs), and every binary16 code against the C compiler's; that a refusal leaves every lent byte, that what is only read stays, and that
 //! nothing beside a lent buffer is written.
 //!
 //! The original is not asked where its 32-bit coordinates or 64-bit offsets would wrap, of plane
@@ -466,9 +466,16 @@ impl Checks {
         for bits in patterns {
             count += 1;
             let ours = port::f32_to_f16_bits(bits);
-            let original = convert::f32_to_f16_bits(f32::from_bits(bits));
-            if ours != original {
-                let line = format!("ours {ours:04X}, the original's {original:04X}");
+            let value = f32::from_bits(bits);
+            let original = convert::f32_to_f16_bits(value);
+            // Where document 02 departs from it, the original has the signed zero.
+            let faint = paper::is_faint(bits);
+            let wanted = if faint { ours & 0x8000 } else { ours };
+            let compiler = answers::compiler_f32_to_f16_bits(bits);
+            if original != wanted || compiler != ours && !value.is_nan() {
+                let line = format!(
+                    "ours {ours:04X}, the original's {original:04X}, the C compiler's {compiler:04X}"
+                );
                 let describe = || format!("f32_to_f16_bits: {bits:08X}");
                 self.found(Findings(vec![line]), describe);
             }

@@ -1,5 +1,6 @@
 //! The reply to every call by document 01, with the sources that request 1 of document 02 adds: 0
-//! where it accepts, else the number of the refusal. Read from the documents alone, to judge the
+//! where it accepts, else the number of the refusal; and where document 02 departs from the
+//! original. Read from the documents alone, to judge the
 //! port by: neither the original's code nor the port's stands behind it, but for the older formats,
 //! whose lists document 01 leaves to the original, and the structs in which the numbers of a region
 //! and of two planes stand.
@@ -8,6 +9,13 @@
 #![allow(dead_code)]
 
 use crate::common::{Planes, Region};
+
+/// Whether the bits are a binary32 number in the interval of request 3 of document 02, in which it
+/// and not the original governs binary16: a magnitude above 2^-25 and below 2^-24.
+pub fn is_faint(bits: u32) -> bool {
+    let magnitude = f32::from_bits(bits).abs();
+    2.0_f32.powi(-25) < magnitude && magnitude < 2.0_f32.powi(-24)
+}
 
 /// What a texel of a format needs of the source.
 #[derive(Clone, Copy, Debug, PartialEq, Eq)]

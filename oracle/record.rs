@@ -2,8 +2,8 @@
 //! Records the original's answers, in three files of the folder. `vectors` has the leaf arithmetic
 //! of channels, as records of four little-endian 32-bit words: call, a, b, answer; `values` and
 //! `buffers` have every public call (record_calls.rs). README.md lists the calls. Every answer
-//! comes from a public function of the original, and from stills.rs where document 02 adds to them;
-//! where several lanes or formats show the same arithmetic, they must agree.
+//! comes from a public function of the original, and from stills.rs or the C compiler where document
+//! 02 departs from them; where several lanes or formats show the same arithmetic, they must agree.
 
 mod answers;
 mod calls;

@@ -5,10 +5,10 @@
 //! `buffers`, 512 bytes: the call's number and 1 for a refusal, fifteen parameters, five areas.
 //!
 //! The original decides acceptance and every byte of an accepted call; for the pairs that document
-//! 02 adds, paper.rs and stills.rs do. After a refusal every lent byte is what it was and what is
-//! handed back is zero, which is the port's rule (docs/DIFFERENCES.md). Left out: what the original
-//! would wrap or panic at, what it would accept of a plane layout that has refusal 10, and what does
-//! not fit in an area.
+//! 02 adds, paper.rs and stills.rs do, and for binary16 between 2^-25 and 2^-24 the C compiler
+//! (float16.c). After a refusal every lent byte is what it was and what is handed back is zero,
+//! which is the port's rule (docs/DIFFERENCES.md). Left out: what the original would wrap or panic
+//! at, what it would accept of a plane layout that has refusal 10, and what does not fit in an area.
 
 use original::{convert, pixel_convert, stretch_rect};
 
@@ -358,7 +358,11 @@ fn halves(to: &mut Recorder) {
     patterns.extend((0..200).map(|_| to.random.next_u32()));
     patterns.extend((0..200).map(|_| to.random.next_unit().to_bits()));
     for bits in patterns {
-        let half = convert::f32_to_f16_bits(f32::from_bits(bits));
+        let half = if paper::is_faint(bits) {
+            answers::compiler_f32_to_f16_bits(bits)
+        } else {
+            convert::f32_to_f16_bits(f32::from_bits(bits))
+        };
         to.value([bits.into(), 0, 0], Some(&half.to_le_bytes()));
     }
 }

@@ -120,6 +120,10 @@ static void test_numbers(void)
 
     check(wentuqis_f32_to_f16_bits(0x3f800000) == 0x3c00, "f32_to_f16_bits: one");
     check(wentuqis_f32_to_f16_bits(0xffc00000) == 0xfe00, "f32_to_f16_bits: NaN");
+    check(wentuqis_f32_to_f16_bits(0x33000000) == 0x0000, "f32_to_f16_bits: 2^-25");
+    check(wentuqis_f32_to_f16_bits(0xb3000000) == 0x8000, "f32_to_f16_bits: -2^-25");
+    check(wentuqis_f32_to_f16_bits(0x33000001) == 0x0001, "f32_to_f16_bits: above 2^-25");
+    check(wentuqis_f32_to_f16_bits(0xb37fffff) == 0x8001, "f32_to_f16_bits: above -2^-24");
     wentuqis_d3dcolor_to_rgba_f32(0xff003300, rgba);
     check(rgba[0] == 0.0f && rgba[1] == 0.2f && rgba[2] == 0.0f && rgba[3] == 1.0f, "d3dcolor_to_rgba_f32");
     wentuqis_yuv_to_rgb8(16, 128, 128, rgb);

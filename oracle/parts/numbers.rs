@@ -22,7 +22,10 @@ pub fn half(checks: &mut Checks, random: &mut XorShift, all: bool) {
         checks.halves(neighbourhood(code));
     }
     let signs = [0, 0x8000_0000];
+    // Every magnitude from 2^-25 to 2^-24.
+    let [low, high] = [-25, -24].map(|power| 2.0_f32.powi(power).to_bits());
     for sign in signs {
+        checks.halves((low..=high).map(|magnitude| magnitude | sign));
         checks.halves(MAGNITUDES.map(|magnitude| magnitude | sign));
         for exponent in 0..256 {
             let high = sign | exponent << 23;

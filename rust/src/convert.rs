@@ -101,8 +101,8 @@ pub fn splat_pixel_pattern(dst: &mut [u8], pixel: &[u8]) {
 
 /// The bits of the binary16 number nearest to `value`, ties to even.
 ///
-/// Never refuses. Magnitudes below 2^-24 give zero with their sign, magnitudes from 65520 infinity;
-/// a NaN gives 7E00 with its sign.
+/// Never refuses. Magnitudes up to 2^-25 give zero with their sign, those above it and below 2^-24
+/// the smallest subnormal, magnitudes from 65520 infinity; a NaN gives 7E00 with its sign.
 ///
 /// ```
 /// use wentuqis::convert::f32_to_f16_bits;
@@ -110,6 +110,7 @@ pub fn splat_pixel_pattern(dst: &mut [u8], pixel: &[u8]) {
 /// assert_eq!(f32_to_f16_bits(1.0), 0x3c00);
 /// assert_eq!(f32_to_f16_bits(65519.0), 0x7bff);
 /// assert_eq!(f32_to_f16_bits(65520.0), 0x7c00);
+/// assert_eq!(f32_to_f16_bits(-4e-8), 0x8001);
 /// ```
 #[must_use]
 pub fn f32_to_f16_bits(value: f32) -> u16 {

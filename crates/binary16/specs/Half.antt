@@ -6,14 +6,14 @@ use mathlib.Core.Logic.{_⊎_, inl, inr}
 use Prim.Native.Nat.{ℕ, suc, _+_, _*_, _-_, _/_, _%_, _^_, _≤_, _<_}
 use native.Mathlib.Nat.{le-trans, le-of-eq, le-of-lt, lt-trans, lt-irrefl, lt-of-lt-of-le, eq-or-lt-of-le, mul-pos, mul-comm, mul-assoc, mul-one, mul-le-mul-right, mul-lt-mul-of-pos-right, suc-mul, div-lt-iff-lt-mul, le-div-iff-mul-le, div-add-mod'}
 use native.Mathlib.Omega.{arith}
-use lib.Dec.{leb, ltb, lit<, lit≤}
+use lib.Dec.{leb, lit<, lit≤}
 use lib.Arith.{digits-div, digits-mod}
 use lib.Pow.{pow-add, pow-pos, pow-mono}
 use lib.Ieee.{Float, nan, inf, fin, binary32, up, down, size, ofBits}
 use lib.Ieee.Digits.{size-lt, size-reaches}
 use lib.Ieee.Fits.{down-pos}
 use lib.Ieee.Nearest.{closest}
-use borrow.Author.Tests.{leb-true, leb-false, ltb-true, ltb-false}
+use borrow.Author.Tests.{leb-true, leb-false}
 use Rattle.words.specs.Tests.{pick, split}
 use Rattle.channels.specs.Nearest.{apart, NearestEven}
 use Rattle.channels.specs.Even.{rounds, closest-even}
@@ -36,10 +36,6 @@ pub record NearestHalf (n d k : ℕ) : Type 0 where
   pub finite : k ≤ largest
   pub others : (j : ℕ) → j ≤ largest → (j ≡ k → ⊥) → GivesWay n d k j
 
--- document 01's exception: what is below one unit gives 0, where IEEE 754 would round what is above half of one up. With 0 here there is none
-abbrev pub flushed : ℕ
-flushed = 1
-
 -- 65520, the middle between 65504 and 65536: from there on it is an infinity
 abbrev pub overflow : ℕ
 overflow = 65520 * 2 ^ 24
@@ -47,8 +43,7 @@ overflow = 65520 * 2 ^ 24
 -- k is the code, without a sign, of the magnitude n / d
 pub record OfMagnitude (n d k : ℕ) : Type 0 where
   pub overflows : overflow * d ≤ n → k ≡ 0x7c00
-  pub flushes : n < flushed * d → k ≡ 0
-  pub nearest : flushed * d ≤ n → n < overflow * d → NearestHalf n d k
+  pub nearest : n < overflow * d → NearestHalf n d k
 
 -- k is the code, without a sign, of the number x
 abbrev pub CodeOf : Float → ℕ → Type 0
@@ -68,7 +63,7 @@ nearestHalf n d = let x = size (n / d) - 11 in x * 1024 + closest n (d * 2 ^ x)
 
 -- the code of the magnitude n / d
 unfoldable pub magnitudeCode : (n d : ℕ) → ℕ
-magnitudeCode n d = pick (leb (overflow * d) n) 0x7c00 (pick (ltb n (flushed * d)) 0 (nearestHalf n d))
+magnitudeCode n d = pick (leb (overflow * d) n) 0x7c00 (nearestHalf n d)
 
 -- the code of the number x, without a sign
 abbrev pub codeOf : Float → ℕ
@@ -274,20 +269,15 @@ nearest-half n d P h =
 -- ---- what is computed is what is meant
 pub magnitude-of : (n d : ℕ) → 0 < d → OfMagnitude n d (magnitudeCode n d)
 unfolding magnitudeCode
-magnitude-of n d P = go (leb (overflow * d) n) refl (ltb n (flushed * d)) refl
+magnitude-of n d P = go (leb (overflow * d) n) refl
   where
-    go : (a : Bool) → leb (overflow * d) n ≡ a → (b : Bool) → ltb n (flushed * d) ≡ b → OfMagnitude n d (pick a 0x7c00 (pick b 0 (nearestHalf n d)))
-    go true e b f =
+    go : (a : Bool) → leb (overflow * d) n ≡ a → OfMagnitude n d (pick a 0x7c00 (nearestHalf n d))
+    go true e =
         let h : overflow * d ≤ n = leb-true (overflow * d) n e in
-        record { overflows = λ g. refl; flushes = λ g. absurd (omega arith); nearest = λ g u. absurd (omega arith) }
-    go false e true f =
+        record { overflows = λ g. refl; nearest = λ u. absurd (omega arith) }
+    go false e =
         let h : n < overflow * d = leb-false (overflow * d) n e in
-        let l : n < flushed * d = ltb-true n (flushed * d) f in
-        record { overflows = λ g. absurd (omega arith); flushes = λ g. refl; nearest = λ g u. absurd (omega arith) }
-    go false e false f =
-        let h : n < overflow * d = leb-false (overflow * d) n e in
-        let l : flushed * d ≤ n = ltb-false n (flushed * d) f in
-        record { overflows = λ g. absurd (omega arith); flushes = λ g. absurd (omega arith); nearest = λ g u. nearest-half n d P h }
+        record { overflows = λ g. absurd (omega arith); nearest = λ u. nearest-half n d P h }
 
 pub code-of : (x : Float) → CodeOf x (codeOf x)
 code-of nan = refl
@@ -297,10 +287,7 @@ code-of (fin s m e) = magnitude-of (m * up e * 2 ^ 24) (down e) (down-pos e)
 magnitude-small : (n d k : ℕ) → OfMagnitude n d k → k < 0x8000
 magnitude-small n d k M = elim (split n (overflow * d)) [
   | inr h ↦ omega (arith, M .overflows h)
-  | inl h ↦ elim (split n (flushed * d)) [
-    | inl l ↦ omega (arith, M .flushes l)
-    | inr l ↦ omega (arith, M .nearest l h .finite)
-  ]
+  | inl h ↦ omega (arith, M .nearest h .finite)
 ]
 
 pub code-small : (x : Float) → codeOf x < 0x8000
@@ -361,10 +348,7 @@ one-half n d k j D R S = elim (split k j) [
 one-magnitude : (n d k j : ℕ) → 0 < d → OfMagnitude n d k → OfMagnitude n d j → k ≡ j
 one-magnitude n d k j D R S = elim (split n (overflow * d)) [
   | inr h ↦ R .overflows h ∙ sym (S .overflows h)
-  | inl h ↦ elim (split n (flushed * d)) [
-    | inl l ↦ R .flushes l ∙ sym (S .flushes l)
-    | inr l ↦ one-half n d k j D (R .nearest l h) (S .nearest l h)
-  ]
+  | inl h ↦ one-half n d k j D (R .nearest h) (S .nearest h)
 ]
 
 pub one-code : (x : Float) (k j : ℕ) → CodeOf x k → CodeOf x j → k ≡ j

@@ -2,3 +2,4 @@
 pub mod Units
 pub mod Half
 pub mod Patterns
+pub mod Faint

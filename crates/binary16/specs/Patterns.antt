@@ -3,9 +3,9 @@ use mathlib.Core.Path.{_≡_, refl, sym, ap, ap₂, _∙_, subst}
 use mathlib.Core.Bool.{Bool, cond}
 use mathlib.Core.Logic.{inl, inr}
 use Prim.Native.Nat.{ℕ, zero, suc, _+_, _*_, _-_, _/_, _%_, _^_, _≤_, _<_}
-use native.Mathlib.Nat.{le-trans, le-of-eq, lt-of-lt-of-le, not-le-of-lt, eq-or-lt-of-le, mul-pos, mul-assoc, mul-right-comm, mul-one, mul-le-mul-right, mul-lt-mul-of-pos-right, le-of-mul-le-mul-right, lt-of-mul-lt-mul-right, div-lt-iff-lt-mul, le-div-iff-mul-le}
+use native.Mathlib.Nat.{le-trans, le-of-eq, lt-of-lt-of-le, not-le-of-lt, eq-or-lt-of-le, mul-pos, mul-assoc, mul-right-comm, mul-one, one-mul, zero-add, mul-le-mul-right, mul-lt-mul-of-pos-right, le-of-mul-le-mul-right, lt-of-mul-lt-mul-right, div-lt-iff-lt-mul, le-div-iff-mul-le}
 use native.Mathlib.Omega.{arith}
-use lib.Dec.{T, leb, ltb, eqb, lt→ltb, eqb→eq, not-T, lit<}
+use lib.Dec.{T, leb, eqb, lt→ltb, eqb→eq, not-T, lit<}
 use lib.Pow.{pow-add, pow-pos, pow-mono}
 use lib.Ieee.{Float, nan, inf, fin, binary32, up, down, size, odd, ofFields, ofBits, isNan}
 use lib.Ieee.Digits.{size-lt, size-le}
@@ -13,10 +13,11 @@ use lib.Ieee.Bits.{cond-no, nanBits-is, nanBits-above}
 use lib.Ieee.Exact.{HasValue, odd-sign}
 use lib.Ieee.Fits.{down-pos}
 use lib.Ieee.Nearest.{closest, closest-same, div-same}
-use borrow.Author.Tests.{le-leb, lt-leb, lt-ltb, le-ltb}
+use borrow.Author.Tests.{le-leb, lt-leb}
 use Rattle.words.specs.Tests.{pick, leb-same, split}
 use Rattle.binary16.specs.Units.{unitsAt, unitsOf, units-lt, units-le}
-use Rattle.binary16.specs.Half.{overflow, flushed, nearestHalf, magnitudeCode, codeOf}
+use Rattle.channels.specs.Even.{Rounds, rounds}
+use Rattle.binary16.specs.Half.{overflow, nearestHalf, magnitudeCode, codeOf}
 
 -- ---- two names of one fraction have one code
 module _ (n d m c : ℕ) (D : 0 < d) (C : 0 < c) (e : n * c ≡ m * d) where
@@ -38,17 +39,10 @@ module _ (n d m c : ℕ) (D : 0 < d) (C : 0 < c) (e : n * c ≡ m * d) where
   same-overflow : leb (overflow * d) n ≡ leb (overflow * c) m
   same-overflow = leb-same (overflow * d) n (overflow * c) m (at-least overflow) (less overflow)
 
-  same-flush : ltb n (flushed * d) ≡ ltb m (flushed * c)
-  same-flush = elim (split n (flushed * d)) [
-    | inl l ↦ lt-ltb n (flushed * d) l ∙ sym (lt-ltb m (flushed * c) (less flushed l))
-    | inr l ↦ le-ltb n (flushed * d) l ∙ sym (le-ltb m (flushed * c) (at-least flushed l))
-  ]
-
   pub magnitude-same : magnitudeCode n d ≡ magnitudeCode m c
   unfolding magnitudeCode
   magnitude-same =
-      ap₂ (λ (a b : Bool). pick a 0x7c00 (pick b 0 (nearestHalf n d))) same-overflow same-flush
-      ∙ ap (λ (z : ℕ). pick (leb (overflow * c) m) 0x7c00 (pick (ltb m (flushed * c)) 0 z)) same-row
+      ap (λ (a : Bool). pick a 0x7c00 (nearestHalf n d)) same-overflow ∙ ap (λ (z : ℕ). pick (leb (overflow * c) m) 0x7c00 z) same-row
 
 -- a number of v / c, whatever its sign
 pub code-by-value : (x : Float) (s : Bool) (v c : ℕ) → HasValue x s v c → 0 < c → codeOf x ≡ magnitudeCode (v * 2 ^ 24) c
@@ -115,9 +109,9 @@ infinity-code s = refl
 
 magnitude-overflows : (n d : ℕ) → overflow * d ≤ n → magnitudeCode n d ≡ 0x7c00
 unfolding magnitudeCode
-magnitude-overflows n d h = ap (λ (a : Bool). pick a 0x7c00 (pick (ltb n (flushed * d)) 0 (nearestHalf n d))) (le-leb (overflow * d) n h)
+magnitude-overflows n d h = ap (λ (a : Bool). pick a 0x7c00 (nearestHalf n d)) (le-leb (overflow * d) n h)
 
--- 65520 in binary32, and 2^-24
+-- 65520 in binary32, 2^-24, and 2^-25
 threshold : floatUnits 0x477ff000 ≡ overflow * 2 ^ 125
 unfolding unitsOf
 threshold = refl
@@ -125,6 +119,10 @@ threshold = refl
 smallest : floatUnits 0x33800000 ≡ 2 ^ 125
 unfolding unitsOf
 smallest = refl
+
+half-of-it : 2 * floatUnits 0x33000000 ≡ 2 ^ 125
+unfolding unitsOf
+half-of-it = refl
 
 pub overflow-code : (b : ℕ) → 0x477ff000 ≤ b % 2147483648 → b % 2147483648 ≤ 0x7f800000 → codeOf (ofBits binary32 b) ≡ 0x7c00
 overflow-code b h l = elim (eq-or-lt-of-le l) [
@@ -137,29 +135,71 @@ overflow-code b h l = elim (eq-or-lt-of-le l) [
       ∙ magnitude-overflows (floatUnits (b % 2147483648)) (2 ^ 125) (le-trans (le-of-eq (sym threshold)) (units-le 8388608 0x477ff000 (b % 2147483648) (lit< tt) h))
 ]
 
--- below 2^-24
-magnitude-flushes : (n d : ℕ) → n < flushed * d → magnitudeCode n d ≡ 0
+-- below 65520
+magnitude-rounds : (n d : ℕ) → n < overflow * d → magnitudeCode n d ≡ nearestHalf n d
 unfolding magnitudeCode
-magnitude-flushes n d h =
-    ap₂ (λ (a b : Bool). pick a 0x7c00 (pick b 0 (nearestHalf n d))) (lt-leb (overflow * d) n (omega arith)) (lt-ltb n (flushed * d) h)
+magnitude-rounds n d l = ap (λ (a : Bool). pick a 0x7c00 (nearestHalf n d)) (lt-leb (overflow * d) n l)
 
-pub small-code : (b : ℕ) → b % 2147483648 < 0x33800000 → codeOf (ofBits binary32 b) ≡ 0
-small-code b h =
-    finite-code b (omega arith)
-    ∙ magnitude-flushes (floatUnits (b % 2147483648)) (2 ^ 125) (subst (λ (z : ℕ). floatUnits (b % 2147483648) < z) smallest (units-lt 8388608 (b % 2147483648) 0x33800000 (lit< tt) h))
+-- below one unit: what is not above half of one gives 0, a half too, since 0 is even, and all else gives 1
+closest-zero : (k n d p : ℕ) → 0 < d → Rounds n d k p → p ≡ k * d → 2 * n ≤ d → k ≡ 0
+closest-zero k n d p D R e h = elim (split 0 k) [
+  | inr l ↦ omega arith
+  | inl l ↦ elim (split 1 k) [
+    | inl g ↦ absurd (omega (arith, R .below, e, mul-le-mul-right d g))
+    | inr g ↦ absurd (omega (arith, e, R .tie-up (omega (arith, e, R .below, ap (λ (z : ℕ). z * d) (one k l g)))))
+  ]
+]
+  where
+    one : (k : ℕ) → 0 < k → k ≤ 1 → k ≡ 1
+    one k l g = omega arith
+
+closest-one : (k n d p : ℕ) → 0 < d → Rounds n d k p → p ≡ k * d → d < 2 * n → n < d → k ≡ 1
+closest-one k n d p D R e h l = elim (split 0 k) [
+  | inr g ↦ absurd (omega (arith, e, R .above, mul-le-mul-right d g))
+  | inl g ↦ elim (split 1 k) [
+    | inl f ↦ absurd (omega (arith, e, R .below, mul-le-mul-right d f))
+    | inr f ↦ omega arith
+  ]
+]
+
+module _ (n d : ℕ) (D : 0 < d) (l : n < d) where
+  none : n / d ≡ 0
+  none = omega (arith, div-lt-iff-lt-mul {k = d} {x = n} {y = 1} D .1 (subst (λ (z : ℕ). n < z) (sym (one-mul d)) l))
+
+  below-unit : magnitudeCode n d ≡ closest n d
+  unfolding nearestHalf size
+  below-unit =
+      magnitude-rounds n d (omega arith)
+      ∙ ap (λ (q : ℕ). (size q - 11) * 1024 + closest n (d * 2 ^ (size q - 11))) none
+      ∙ zero-add (closest n (d * 2 ^ 0)) ∙ ap (closest n) (mul-one d)
+
+  pub magnitude-zero : 2 * n ≤ d → magnitudeCode n d ≡ 0
+  magnitude-zero h = below-unit ∙ closest-zero (closest n d) n d (closest n d * d) D (rounds n d D) refl h
+
+  pub magnitude-one : d < 2 * n → magnitudeCode n d ≡ 1
+  magnitude-one h = below-unit ∙ closest-one (closest n d) n d (closest n d * d) D (rounds n d D) refl h l
+
+-- 2^-25 and below
+pub zero-code : (b : ℕ) → b % 2147483648 ≤ 0x33000000 → codeOf (ofBits binary32 b) ≡ 0
+zero-code b h =
+    let a = b % 2147483648 in
+    let l : floatUnits a ≤ floatUnits 0x33000000 = units-le 8388608 a 0x33000000 (lit< tt) h in
+    finite-code b (omega arith) ∙ magnitude-zero (floatUnits a) (2 ^ 125) (pow-pos 125) (omega (arith, l, half-of-it, pow-pos 125)) (omega (arith, l, half-of-it))
+
+-- above 2^-25 and below 2^-24
+pub unit-code : (b : ℕ) → 0x33000000 < b % 2147483648 → b % 2147483648 < 0x33800000 → codeOf (ofBits binary32 b) ≡ 1
+unit-code b h l =
+    let a = b % 2147483648 in
+    let u : floatUnits a < floatUnits 0x33800000 = units-lt 8388608 a 0x33800000 (lit< tt) l in
+    let v : floatUnits 0x33000000 < floatUnits a = units-lt 8388608 0x33000000 a (lit< tt) h in
+    finite-code b (omega arith) ∙ magnitude-one (floatUnits a) (2 ^ 125) (pow-pos 125) (subst (λ (z : ℕ). floatUnits a < z) smallest u) (omega (arith, v, half-of-it))
 
 -- from 2^-24 to 65520
-magnitude-rounds : (n d : ℕ) → flushed * d ≤ n → n < overflow * d → magnitudeCode n d ≡ nearestHalf n d
-unfolding magnitudeCode
-magnitude-rounds n d h l =
-    ap₂ (λ (a b : Bool). pick a 0x7c00 (pick b 0 (nearestHalf n d))) (lt-leb (overflow * d) n l) (le-ltb n (flushed * d) h)
-
 pub middle-code : (b : ℕ) → 0x33800000 ≤ b % 2147483648 → b % 2147483648 < 0x477ff000 → codeOf (ofBits binary32 b) ≡ nearestHalf (floatUnits (b % 2147483648)) (2 ^ 125)
 middle-code b h l =
     let a = b % 2147483648 in
     finite-code b (omega arith)
-    ∙ magnitude-rounds (floatUnits a) (2 ^ 125) (le-trans (le-of-eq (sym smallest)) (units-le 8388608 0x33800000 a (lit< tt) h))
-    (lt-of-lt-of-le (units-lt 8388608 a 0x477ff000 (lit< tt) l) (le-of-eq threshold))
+    ∙ magnitude-rounds (floatUnits a) (2 ^ 125) (lt-of-lt-of-le (units-lt 8388608 a 0x477ff000 (lit< tt) l) (le-of-eq threshold))
 
 -- ---- a significand of 24 digits, m × 2^y units of 2^-149: y - 112 more than the exponent's field 1 has, and the low s digits rounded away
 module _ (m y : ℕ) (l : 2 ^ 23 ≤ m) (u : m < 2 ^ 24) (h : 102 ≤ y) where

@@ -34,8 +34,11 @@ const FIRST_OVERFLOW: u32 = 0x477f_f000;
 // 2^-24 in binary32: the smallest subnormal binary16 number.
 const SMALLEST_SUBNORMAL: u32 = 0x3380_0000;
 
-// A binary32 pattern as the binary16 pattern of the nearest number, a tie to the even code. From 65520 on it is an infinity, below
-// 2^-24 a zero, and a NaN is 7E00; the sign stays.
+// 2^-25 in binary32: the middle between zero and it, and a tie that goes to zero.
+const TIE_WITH_ZERO: u32 = 0x3300_0000;
+
+// A binary32 pattern as the binary16 pattern of the nearest number, a tie to the even code. From 65520 on it is an infinity, up to
+// 2^-25 a zero, and a NaN is 7E00; the sign stays.
 pub fn f32_to_f16_bits(bits: u32) -> u16
     ensures is { λ r. ⌜ r ≡ halfOf bits ⌝ }
     ensures nearest { λ r. ⌜ HalfOf bits r ⌝ }
@@ -49,6 +52,9 @@ pub fn f32_to_f16_bits(bits: u32) -> u16
         return (sign + 0x7c00) as u16;
     }
     if magnitude < SMALLEST_SUBNORMAL {
+        if magnitude > TIE_WITH_ZERO {
+            return (sign + 1) as u16;
+        }
         return sign as u16;
     }
     (sign + nearest_f16(magnitude)) as u16

@@ -1,3 +1,4 @@
 -- What the contracts cite, and laws that other crates cite.
 pub mod Color
 pub mod Fill
+pub mod Unmoved

@@ -6,7 +6,7 @@ use native.Mathlib.Omega.{arith}
 use lib.Ieee.{binary32, ofBits}
 use borrow.Author.Needs.{needs}
 use Rattle.binary16.specs.Half.{codeOf, code-small, halfOf, HalfOf, half-of, nearestHalf}
-use Rattle.binary16.specs.Patterns.{nan-code, overflow-code, small-code, middle-code, floatUnits}
+use Rattle.binary16.specs.Patterns.{nan-code, overflow-code, zero-code, unit-code, middle-code, floatUnits}
 use Rattle.binary16.proofs.f32_to_f16_bits.Statement.{statement}
 use Rattle.binary16.proofs.f32_to_f16_bits.Tie as tie
 
@@ -45,11 +45,20 @@ cast-result-2 c = search needs
 returns-2 : tie.Need-returns-2
 returns-2 c = answer (c .before .before .args .bits) 0x7c00 _ (overflow-code _ (c .if2 .taken) (c .before .if1 .left)) refl
 
+add-result-3 : tie.Need-add-result-3
+add-result-3 c = search needs
+
 cast-result-3 : tie.Need-cast-result-3
 cast-result-3 c = search needs
 
 returns-3 : tie.Need-returns-3
-returns-3 c = answer (c .before .before .before .args .bits) 0 _ (small-code _ (c .if3 .taken)) (sym (add-zero _))
+returns-3 c = answer (c .before .before .before .before .args .bits) 1 _ (unit-code _ (c .if4 .taken) (c .before .if3 .taken)) refl
+
+cast-result-4 : tie.Need-cast-result-4
+cast-result-4 c = search needs
+
+returns-4 : tie.Need-returns-4
+returns-4 c = answer (c .before .before .before .before .args .bits) 0 _ (zero-code _ (c .if4 .left)) (sym (add-zero _))
 
 nearest-f16-requires : tie.Need-nearest-f16-requires
 nearest-f16-requires c κs = search needs
@@ -57,14 +66,14 @@ nearest-f16-requires c κs = search needs
 found : (c : tie.After-nearest-f16) → codeOf (ofBits binary32 (c .before .before .before .before .args .bits)) ≡ c .nearest-f16 .result
 found c = signless (c .before .before .before .before .args .bits) (c .before .if3 .left) (c .before .before .if2 .left) ∙ sym (c .nearest-f16 .ensures)
 
-add-result-3 : tie.Need-add-result-3
-add-result-3 c = omega (arith, found c, code-small (ofBits binary32 (c .before .before .before .before .args .bits)))
+add-result-4 : tie.Need-add-result-4
+add-result-4 c = omega (arith, found c, code-small (ofBits binary32 (c .before .before .before .before .args .bits)))
 
-cast-result-4 : tie.Need-cast-result-4
-cast-result-4 c = omega (arith, found c, code-small (ofBits binary32 (c .before .before .before .before .args .bits)))
+cast-result-5 : tie.Need-cast-result-5
+cast-result-5 c = omega (arith, found c, code-small (ofBits binary32 (c .before .before .before .before .args .bits)))
 
-returns-4 : tie.Need-returns-4
-returns-4 c = answer (c .before .before .before .before .args .bits) (c .nearest-f16 .result) _ (found c) refl
+returns-5 : tie.Need-returns-5
+returns-5 c = answer (c .before .before .before .before .args .bits) (c .nearest-f16 .result) _ (found c) refl
 
 pub f32-to-f16-bits-spec : {M : Type 1} → statement M
 f32-to-f16-bits-spec =
@@ -77,9 +86,12 @@ f32-to-f16-bits-spec =
     add-result-2
     cast-result-2
     returns-2
+    add-result-3
     cast-result-3
     returns-3
-    nearest-f16-requires
-    add-result-3
     cast-result-4
-    returns-4)
+    returns-4
+    nearest-f16-requires
+    add-result-4
+    cast-result-5
+    returns-5)
