@@ -45,10 +45,10 @@ pub fn f32_to_f16_bits(bits: u32) -> u16
 {
     let sign = bits / 0x8000_0000 * 0x8000;
     let magnitude = bits % 0x8000_0000;
-    if magnitude > INFINITY {
-        return (sign + 0x7e00) as u16;
-    }
     if magnitude >= FIRST_OVERFLOW {
+        if magnitude > INFINITY {
+            return (sign + 0x7e00) as u16;
+        }
         return (sign + 0x7c00) as u16;
     }
     if magnitude < SMALLEST_SUBNORMAL {
