@@ -17,7 +17,7 @@ help:
 	@echo 'make fuzz      damaged calls under valgrind for ten minutes (SECONDS_OF_FUZZ=N: for N seconds)'
 	@echo 'make library   prove and build target/staticlib/libwentuqis.a'
 	@echo 'make fmt       lay out every file of Rattle (rt fmt)'
-	@echo 'make vectors   record the answers of the original, and of oracle/stills.rs, anew in crates/replay/data'
+	@echo 'make vectors   record the answers of the original, oracle/stills.rs and float16.c anew in crates/replay/data'
 	@echo 'make clean     remove all that these targets make'
 
 # A line for each crate as it is proved; all that the prover says is in out/library.log.

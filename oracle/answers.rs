@@ -1,6 +1,6 @@
 //! What the original answers to a call, for those who record its answers and those who compare. It
-//! is not asked where document 02 departs from it: paper.rs and stills.rs answer for the pairs that
-//! are added, and the C compiler for the binary16 codes that are others.
+//! does not decide where document 02 departs from it: paper.rs and stills.rs answer for the pairs
+//! that are added, and the C compiler for the binary16 codes that are others.
 
 use original::{
     depth_texture::{PackedDepth, PlaneLayout},

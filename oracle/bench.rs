@@ -1,16 +1,16 @@
 //! Usage: bench [--markdown FILE] [WORD..]
 //! Measures conversions and depth transfers of a 4096 x 2160 frame, conversions of as many texels
-//! in rows of 16, splats of as many 4-byte texels, and as many numbers to binary16, a call for each,
-//! in nanoseconds a texel, on one thread: every work, or those whose name has one of the words. Among the conversions is every pair of RGB
-//! formats, a format to itself too. Each row of the table is one piece of work and each column a
-//! route that does it; `ours`, and its ratio to the original, stand where the port is linked, and
-//! `memcpy` copies as many bytes as the work writes. The original has no number where it refuses. A
-//! number is the median of rounds in which the routes take turns, so that a slow moment of the
-//! machine falls on all of them. Below the table stand the bars whose works were all measured: the
-//! greatest ratio that is wanted of ours to another route, the worst that was measured, and of
-//! which work. They do not change the exit status. With --markdown all this is also written to
-//! FILE, the RGB pairs as a table of sources and destinations; FILE keeps what it has from its
-//! first line `## ..` on.
+//! in rows of 16, splats of as many 4-byte texels, and as many numbers to binary16, a call for
+//! each, in nanoseconds a texel, on one thread: every work, or those whose name has one of the
+//! words. Among the conversions is every pair of RGB formats, a format to itself too. Each row of
+//! the table is one piece of work and each column a route that does it; `ours`, and its ratio to
+//! the original, stand where the port is linked, and `memcpy` copies as many bytes as the work
+//! writes. The original has no number where it refuses. A number is the median of rounds in which
+//! the routes take turns, so that a slow moment of the machine falls on all of them. Below the
+//! table stand the bars whose works were all measured: the greatest ratio that is wanted of ours
+//! to another route, the worst that was measured, and of which work. They do not change the exit
+//! status. With --markdown all this is also written to FILE, the RGB pairs as a table of sources
+//! and destinations; FILE keeps what it has from its first line `## ..` on.
 
 mod common;
 mod paper;

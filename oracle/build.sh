@@ -5,8 +5,8 @@
 # files lie below windows/core/src. Where there is none, one line says so and the exit status is 3. `compare`, `fuzz` and
 # a `bench` with the port's column need libwentuqis.a in the folder WENTUQIS_LIB_DIR, else in target/staticlib; without
 # it one line says so, which is a failure only where `compare` or `fuzz` is named. `record`, `compare` and `fuzz` need a
-# C compiler, cc, that has _Float16. What is newer than all that it is made from is left as it is. With --where, only
-# prints the source folder.
+# C compiler, cc, that has _Float16, as gcc has from version 12 on. What is newer than all that it is made from is left
+# as it is. With --where, only prints the source folder.
 set -euo pipefail
 
 here=$(cd "$(dirname "${BASH_SOURCE[0]}")" && pwd)
@@ -161,18 +161,9 @@ missing() {
     done < <(grep -o '\bwentuqis_\w*' "$crate/ffi.rs" | sort -u)
 }
 
-# The C compiler's conversion to binary16, for those that ask answers.rs.
-float16=$build/float16.o
-if asked record compare fuzz && ! made "$float16" "$here/float16.c"; then
-    echo 'oracle: building float16.o'
-    cc -std=c11 -O2 -Wall -Wextra -Werror -c "$here/float16.c" -o "$build/unfinished/float16.o" ||
-        fail 'no C compiler, cc, that has _Float16'
-    mv -f "$build/unfinished/float16.o" "$float16"
-fi
-
 common=("$here/common.rs" "$crate/shapes.rs" "$build/liboriginal.rlib")
 program worked_table "${common[@]}" --
-program record "${common[@]}" "$float16" "$here"/{answers,calls,paper,record_calls,stills}.rs -- -C "link-arg=$float16"
+recorded=("${common[@]}" "$here"/{answers,calls,paper,record_calls,stills}.rs)
 
 # A `bench` over another archive, or over none, is not kept.
 common+=("$here/paper.rs")
@@ -187,11 +178,24 @@ if [[ ! -f $build/linked || $(<"$build/linked") != "${port[*]}" ]]; then
 fi
 program bench "${common[@]}" -- --check-cfg 'cfg(port)' "${port[@]}"
 
+# The C compiler's conversion to binary16, for those that take answers.rs: a library of its own, so that what the compiler
+# leaves to a routine is the C compiler's routine. Linked as an object, it would be bound to the one of Rust's runtime.
+float16=$build/libfloat16.so
+by_compiler=(-L "native=$build" -l dylib=float16 -C "link-arg=-Wl,-rpath,$build")
+if asked record compare fuzz && ! made "$float16" "$here/float16.c"; then
+    echo 'oracle: building libfloat16.so'
+    cc -std=c11 -O2 -Wall -Wextra -Werror -fPIC -shared "$here/float16.c" -o "$build/unfinished/libfloat16.so" ||
+        fail 'no C compiler, cc, that has _Float16'
+    if nm -D -u "$build/unfinished/libfloat16.so" | grep __trunc; then fail 'libfloat16.so has no conversion of its own'; fi
+    mv -f "$build/unfinished/libfloat16.so" "$float16"
+fi
+program record "${recorded[@]}" "$float16" -- "${by_compiler[@]}"
+
 if [[ -z $missing ]]; then
     common+=("$here"/{answers,calls,checks,findings,stills}.rs "$float16")
     for name in compare fuzz; do
         program "$name" "${common[@]}" "$here"/parts/*.rs -- \
-            --check-cfg 'cfg(port)' "${port[@]}" -C overflow-checks=on -C "link-arg=$float16"
+            --check-cfg 'cfg(port)' "${port[@]}" -C overflow-checks=on "${by_compiler[@]}"
     done
 elif asked bench compare fuzz; then
     missing="$archive $missing (rt staticlib wentuqis makes it; WENTUQIS_LIB_DIR names another folder)"

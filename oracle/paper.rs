@@ -1,9 +1,8 @@
 //! The reply to every call by document 01, with the sources that request 1 of document 02 adds: 0
-//! where it accepts, else the number of the refusal; and where document 02 departs from the
-//! original. Read from the documents alone, to judge the
-//! port by: neither the original's code nor the port's stands behind it, but for the older formats,
-//! whose lists document 01 leaves to the original, and the structs in which the numbers of a region
-//! and of two planes stand.
+//! where it accepts, else the number of the refusal; and the interval in which request 3 departs
+//! from the original. Read from the documents alone, to judge the port by: neither the original's
+//! code nor the port's stands behind it, but for the older formats, whose lists document 01 leaves
+//! to the original, and the structs in which the numbers of a region and of two planes stand.
 //! Numbers have 128 bits, so that products of 64-bit numbers are true ones; a sum that would not
 //! fit stays at the greatest number, which lies past every buffer.
 #![allow(dead_code)]

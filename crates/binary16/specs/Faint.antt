@@ -2,15 +2,14 @@
 -- Assumes nothing.
 use mathlib.Core.Path.{_≡_, refl, sym, ap, _∙_, subst}
 use mathlib.Core.Bool.{Bool, true, false, _&&_}
-use Prim.Native.Nat.{ℕ, suc, _+_, _*_, _/_, _^_, _≤_, _<_}
+use Prim.Native.Nat.{ℕ, _+_, _*_, _/_, _^_, _<_}
 use native.Mathlib.Nat.{add-zero}
-use native.Mathlib.Numerals.{add-one}
 use lib.Dec.{T, ltb}
-use lib.Ieee.{Float, nan, inf, fin, binary32, up, down, ofBits}
+use lib.Ieee.{Float, nan, inf, fin, binary32, up, down, size, ofBits}
 use lib.Ieee.Fits.{down-pos}
 use borrow.Author.Tests.{ltb-true, ltb-false}
 use Rattle.words.specs.Tests.{pick}
-use Rattle.binary16.specs.Half.{magnitudeCode, codeOf, halfOf}
+use Rattle.binary16.specs.Half.{nearestHalf, magnitudeCode, codeOf, halfOf}
 use Rattle.binary16.specs.Patterns.{magnitude-zero, magnitude-one}
 
 -- a magnitude below 2^-24
@@ -33,11 +32,16 @@ faint x = belowUnit x && aboveHalf x
 unfoldable pub originalHalf : ℕ → ℕ
 originalHalf bits = pick (belowUnit (ofBits binary32 bits)) (bits / 0x80000000 * 0x8000) (halfOf bits)
 
--- the ends of the interval: 2^-25 lies outside, the patterns after it and before 2^-24 inside, 2^-24 outside
+-- the ends of the interval: 2^-25 lies outside, the pattern after it and the one before 2^-24 inside, 2^-24 outside
 pub ends :
     (faint (ofBits binary32 0x33000000) ≡ false) × (faint (ofBits binary32 0x33000001) ≡ true) × (faint (ofBits binary32 0x337fffff) ≡ true) × (faint (ofBits binary32 0x33800000) ≡ false)
 unfolding ofBits
 ends = (refl, refl, refl, refl)
+
+-- 2^-25 gives the zero of its sign
+pub tie-with-zero : (halfOf 0x33000000 ≡ 0) × (halfOf 0xb3000000 ≡ 0x8000)
+unfolding halfOf magnitudeCode nearestHalf ofBits size
+tie-with-zero = (refl, refl)
 
 -- THE LAW: outside the interval the pattern is the original's
 pub elsewhere : (bits : ℕ) → faint (ofBits binary32 bits) ≡ false → halfOf bits ≡ originalHalf bits
@@ -54,17 +58,17 @@ elsewhere bits = go (bits / 0x80000000 * 0x8000) (ofBits binary32 bits)
     go z (inf s) h = refl
     go z (fin s m e) h = let n = m * up e * 2 ^ 24 in fraction z n (down e) (down-pos e) (ltb n (down e)) (ltb (down e) (2 * n)) refl refl h
 
--- and inside it is one more, the smallest subnormal where the original has zero
-pub inside : (bits : ℕ) → faint (ofBits binary32 bits) ≡ true → halfOf bits ≡ suc (originalHalf bits)
+-- and inside it is the smallest subnormal with the sign, where the original has the zero
+pub inside : (bits : ℕ) → faint (ofBits binary32 bits) ≡ true → (halfOf bits ≡ bits / 0x80000000 * 0x8000 + 1) × (originalHalf bits ≡ bits / 0x80000000 * 0x8000)
 unfolding halfOf originalHalf
 inside bits = go (bits / 0x80000000 * 0x8000) (ofBits binary32 bits)
   where
-    fraction : (z n d : ℕ) → 0 < d → (a b : Bool) → ltb n d ≡ a → ltb d (2 * n) ≡ b → (a && b) ≡ true → z + magnitudeCode n d ≡ suc (pick a z (z + magnitudeCode n d))
-    fraction z n d D true true e f h = ap (λ (x : ℕ). z + x) (magnitude-one n d D (ltb-true n d e) (ltb-true d (2 * n) f)) ∙ add-one z
+    fraction : (z n d : ℕ) → 0 < d → (a b : Bool) → ltb n d ≡ a → ltb d (2 * n) ≡ b → (a && b) ≡ true → (z + magnitudeCode n d ≡ z + 1) × (pick a z (z + magnitudeCode n d) ≡ z)
+    fraction z n d D true true e f h = (ap (λ (x : ℕ). z + x) (magnitude-one n d D (ltb-true n d e) (ltb-true d (2 * n) f)), refl)
     fraction z n d D true false e f h = absurd (subst T (sym h) tt)
     fraction z n d D false b e f h = absurd (subst T (sym h) tt)
 
-    go : (z : ℕ) (x : Float) → faint x ≡ true → z + codeOf x ≡ suc (pick (belowUnit x) z (z + codeOf x))
+    go : (z : ℕ) (x : Float) → faint x ≡ true → (z + codeOf x ≡ z + 1) × (pick (belowUnit x) z (z + codeOf x) ≡ z)
     go z nan h = absurd (subst T (sym h) tt)
     go z (inf s) h = absurd (subst T (sym h) tt)
     go z (fin s m e) h = let n = m * up e * 2 ^ 24 in fraction z n (down e) (down-pos e) (ltb n (down e)) (ltb (down e) (2 * n)) refl refl h

@@ -194,9 +194,9 @@ unit-code b h l =
     let v : floatUnits 0x33000000 < floatUnits a = units-lt 8388608 0x33000000 a (lit< tt) h in
     finite-code b (omega arith) ∙ magnitude-one (floatUnits a) (2 ^ 125) (pow-pos 125) (subst (λ (z : ℕ). floatUnits a < z) smallest u) (omega (arith, v, half-of-it))
 
--- from 2^-24 to 65520
-pub middle-code : (b : ℕ) → 0x33800000 ≤ b % 2147483648 → b % 2147483648 < 0x477ff000 → codeOf (ofBits binary32 b) ≡ nearestHalf (floatUnits (b % 2147483648)) (2 ^ 125)
-middle-code b h l =
+-- below 65520
+pub nearest-code : (b : ℕ) → b % 2147483648 < 0x477ff000 → codeOf (ofBits binary32 b) ≡ nearestHalf (floatUnits (b % 2147483648)) (2 ^ 125)
+nearest-code b l =
     let a = b % 2147483648 in
     finite-code b (omega arith)
     ∙ magnitude-rounds (floatUnits a) (2 ^ 125) (lt-of-lt-of-le (units-lt 8388608 a 0x477ff000 (lit< tt) l) (le-of-eq threshold))
@@ -245,7 +245,7 @@ rounded-code a s h l e =
     let y = a / 8388608 - 1 in
     let field : a / 8388608 ≡ suc y = omega arith in
     let m = 8388608 + a % 8388608 in
-    middle-code a (omega arith) (omega arith)
+    nearest-code a (omega arith)
     ∙ ap (λ (z : ℕ). nearestHalf (floatUnits z) (2 ^ 125)) plain
     ∙ ap (λ (z : ℕ). nearestHalf (unitsAt 8388608 z (a % 8388608)) (2 ^ 125)) field
     ∙ row-code m y (lead a) (digits a) (deep a h) s (omega arith)

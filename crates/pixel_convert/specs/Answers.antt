@@ -1,41 +1,22 @@
 -- A conversion by its reply: refused, empty or accepted, and all that the contract says of each. Assumes nothing.
 use mathlib.Core.Path.{_≡_, refl, sym, ap, _∙_, subst}
-use mathlib.Core.Bool.{Bool, true, false, _&&_, _||_, false≢true}
+use mathlib.Core.Bool.{Bool, true, false, _||_, false≢true}
 use mathlib.Core.List.{List}
-use Prim.Native.Nat.{ℕ, _+_, _<_, zero-le}
+use Prim.Native.Nat.{ℕ, _+_, _<_}
 use native.Mathlib.Omega.{arith}
-use lib.Arith.{lt-of-le-ne}
 use lib.Dec.{eqb}
 use lib.ListN.{length, getD}
-use borrow.Author.Tests.{eqb-true, eq-eqb}
+use borrow.Author.Tests.{eqb-true}
 use Rattle.words.specs.Iterate.{iterate-keeps}
-use Rattle.formats.specs.Classes.{isConvertibleRgb, isPackedYuv, isPlanarYuv, isArgbSource, isLaneSource}
-use Rattle.pixel_convert.specs.declared.ConvertRegion.{ConvertRegion}
-use Rattle.pixel_convert.specs.declared.ConvertReply.{ConvertReply}
-use Rattle.pixel_convert.specs.declared.ConvertReply.the-variants.{Accepted, Unsupported, PlanarShape, SourceOutside, DestinationOutside}
-use Rattle.places.specs.Places.{isPicture}
+use Rattle.convert_reply.specs.declared.ConvertRegion.{ConvertRegion}
+use Rattle.convert_reply.specs.declared.ConvertReply.{ConvertReply}
+use Rattle.convert_reply.specs.declared.ConvertReply.the-variants.{Accepted}
 use Rattle.places.specs.Inside.{inside-at, texel-fits}
-use Rattle.pixel_convert.specs.Regions.{canConvert, canConvertUpdate, isEmpty, sourceInside, destinationInside, convertReply, replyNumber, ifAccepted, rowWritten, sliceWritten, regionWritten, convertedBytes, InRegion, NearSource, OthersKept}
-use Rattle.pixel_convert.specs.Promises.{convert-rgb, passed, destination-fits, near-source, others-kept}
+use Rattle.convert_reply.specs.Replies.{isEmpty, sourceInside, destinationInside, convertReply, replyNumber, ifAccepted}
+use Rattle.pixel_convert.specs.Regions.{rowWritten, sliceWritten, regionWritten, convertedBytes, InRegion, NearSource, OthersKept}
+use Rattle.convert_reply.specs.Passed.{convert-rgb, passed, sizes, is-accepted, is-refused}
+use Rattle.pixel_convert.specs.Promises.{destination-fits, near-source, others-kept}
 use Rattle.pixel_convert.specs.Rows.{RowFits}
-
--- ---- the source of a pair that converts is a picture
-pub convert-picture : (s d : ℕ) → canConvert s d ≡ true → isPicture s ≡ true
-unfolding canConvert canConvertUpdate isPicture isLaneSource
-convert-picture s d h = go (isConvertibleRgb s) (isPackedYuv s) (isConvertibleRgb d) (eqb d 21) (isArgbSource s) (isPlanarYuv s) h
-  where
-    go : (a k b e w p : Bool) → (((a || k) && b) || (e && w) || (p && b)) ≡ true → (a || w || k || p) ≡ true
-    go true k b e w p h = refl
-    go false k b e true p h = refl
-    go false true b e false p h = refl
-    go false false b e false true h = refl
-    go false false b true false false h = h
-    go false false b false false false h = h
-
--- so is an RGB destination
-pub rgb-picture : (d : ℕ) → isConvertibleRgb d ≡ true → isPicture d ≡ true
-unfolding isPicture isLaneSource
-rgb-picture d h = rw h refl
 
 -- ---- an empty region
 none-empty : (r : ConvertRegion) → isEmpty r ≡ true → (z row col : ℕ) → InRegion r z row col → ⊥
@@ -57,35 +38,6 @@ empty-written src dst s d r h =
     (λ row rl. iterate-keeps P _ (r .width)
     (λ col cl b p. absurd (none-empty r h z row col (record { slice = zl; line = rl; column = cl })))))
     dst refl
-
--- a region that is not empty has a column, a row and a slice
-pub sizes : (r : ConvertRegion) → isEmpty r ≡ false → (0 < r .width) × (0 < r .height) × (0 < r .depth)
-unfolding isEmpty
-sizes r h = go (eqb (r .width) 0) (eqb (r .height) 0) (eqb (r .depth) 0) refl refl refl h
-  where
-    above : (n : ℕ) → eqb n 0 ≡ false → 0 < n
-    above n e = lt-of-le-ne {i = 0} {k = n} zero-le (λ z. false≢true (sym e ∙ eq-eqb n 0 (sym z)))
-
-    go : (a b c : Bool) → eqb (r .width) 0 ≡ a → eqb (r .height) 0 ≡ b → eqb (r .depth) 0 ≡ c → (a || b || c) ≡ false → (0 < r .width) × (0 < r .height) × (0 < r .depth)
-    go false false false e f g k = (above (r .width) e, above (r .height) f, above (r .depth) g)
-    go false false true e f g k = absurd (false≢true (sym k))
-    go false true c e f g k = absurd (false≢true (sym k))
-    go true b c e f g k = absurd (false≢true (sym k))
-
--- ---- a reply by its number
-pub is-accepted : (a : ConvertReply) → eqb (replyNumber a) 0 ≡ true → a ≡ Accepted
-is-accepted Accepted h = refl
-is-accepted Unsupported h = absurd (false≢true h)
-is-accepted PlanarShape h = absurd (false≢true h)
-is-accepted SourceOutside h = absurd (false≢true h)
-is-accepted DestinationOutside h = absurd (false≢true h)
-
-is-refused : (a : ConvertReply) (x y : List ℕ) → eqb (replyNumber a) 0 ≡ false → ifAccepted a x y ≡ y
-is-refused Accepted x y h = absurd (false≢true (sym h))
-is-refused Unsupported x y h = refl
-is-refused PlanarShape x y h = refl
-is-refused SourceOutside x y h = refl
-is-refused DestinationOutside x y h = refl
 
 -- ---- the reply, and the bytes after it
 abbrev Answer : (src dst : List ℕ) (s d : ℕ) → ConvertRegion → ConvertReply → List ℕ → Type 0

@@ -19,7 +19,7 @@ use Rattle.texels.specs.Restored.{word-of}
 use Rattle.blocks.specs.Blocks.{wordFrom, wordWritten, wordOf, wordIn, BlockRead, WordsWritten}
 use Rattle.places.specs.Places.{texelStart}
 use Rattle.places.specs.Inside.{lane-ends}
-use Rattle.pixel_convert.specs.declared.ConvertRegion.{ConvertRegion}
+use Rattle.convert_reply.specs.declared.ConvertRegion.{ConvertRegion}
 use Rattle.pixel_convert.specs.Regions.{toAt, sourceTexel, written}
 use Rattle.pixel_convert.specs.Fetch.{lane-texel}
 use Rattle.pixel_convert.specs.Rows.{RowFits}

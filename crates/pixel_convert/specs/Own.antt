@@ -11,7 +11,7 @@ use Rattle.words.specs.Iterate.{iterate-keeps, iterate-length, iterate-makes}
 use Rattle.words.specs.Slices.{sets-before, sets-after, sets-read, part-apart}
 use Rattle.formats.specs.Table.{bytesOf}
 use Rattle.words.specs.Tests.{split}
-use Rattle.pixel_convert.specs.declared.ConvertRegion.{ConvertRegion}
+use Rattle.convert_reply.specs.declared.ConvertRegion.{ConvertRegion}
 use Rattle.texels.specs.Texels.{encodedBytes}
 use Rattle.texels.specs.Words.{encoded-length}
 use Rattle.pixel_convert.specs.Regions.{toAt, sourceTexel, written, rowWritten, sliceWritten, regionWritten, InRegion, ByteOf, Disjoint}

@@ -1,73 +1,38 @@
 -- Near and kept hold of every conversion. Assumes nothing.
 use mathlib.Core.Path.{_≡_, refl, sym, ap, _∙_, subst}
-use mathlib.Core.Bool.{Bool, true, false, not, _&&_, _||_, false≢true}
+use mathlib.Core.Bool.{Bool, true, false}
 use mathlib.Core.List.{List, [], _∷_}
 use Prim.Native.Nat.{ℕ, zero, suc, _+_, _≤_, _<_}
 use native.Mathlib.Omega.{arith}
 use lib.IntN.{ℤ, pos, negsuc}
-use lib.Dec.{eqb}
 use lib.ListN.{length, getD, take, drop}
-use borrow.Author.Tests.{eqb-true, ne-eqb}
+use borrow.Author.Tests.{ne-eqb}
 use Rattle.words.specs.Little.{number}
 use Rattle.words.specs.Tests.{pick}
-use Rattle.formats.specs.Codes.{A8R8G8B8}
 use Rattle.formats.specs.Table.{laneOf, bytesOf}
-use Rattle.formats.specs.Classes.{isConvertibleRgb, isPackedYuv, isPlanarYuv, isArgbSource}
+use Rattle.formats.specs.Classes.{isConvertibleRgb}
 use Rattle.formats.specs.Listed.{rgb-some, rgb-not-planar, rgb-not-packed}
 use Rattle.channels.specs.Fractions.{whole-near}
 use Rattle.stretch_rect.specs.Yuv.{bt601, rgbOf, redRounded, greenRounded, blueRounded}
 use Rattle.stretch_rect.specs.Exact.{bt601-stands}
 use Rattle.words.specs.Integers.{clampTo}
-use Rattle.pixel_convert.specs.declared.ConvertRegion.{ConvertRegion}
-use Rattle.pixel_convert.specs.declared.ConvertReply.{ConvertReply}
-use Rattle.pixel_convert.specs.declared.ConvertReply.the-variants.{Accepted, Unsupported, PlanarShape, SourceOutside, DestinationOutside}
+use Rattle.convert_reply.specs.declared.ConvertRegion.{ConvertRegion}
+use Rattle.convert_reply.specs.declared.ConvertReply.{ConvertReply}
+use Rattle.convert_reply.specs.declared.ConvertReply.the-variants.{Accepted, Unsupported, PlanarShape, SourceOutside, DestinationOutside}
 use Rattle.texels.specs.Texels.{decodedOf, exactOf, valueOf, Stands, Holds}
 use Rattle.texels.specs.Bounds.{decoded-stands, near-bytes}
 use Rattle.places.specs.Places.{Places, absent, offsets, bytesFrom, bytesAt}
 use Rattle.places.specs.Inside.{inside-at, texel-fits, lane-ends}
-use Rattle.pixel_convert.specs.Regions.{canConvert, canConvertUpdate, isYuv, lumaOf, uOf, vOf, opaqueOf, texelOf, yuvValues, valuesOf, texelAt, exactAt, badPlanarShape, isEmpty, sourceInside, destinationInside, replyTo, toAt, sourceTexel, sourceValues, regionWritten, ifAccepted, convertedBytes, InRegion, NearSource, OthersKept}
+use Rattle.convert_reply.specs.Replies.{isEmpty, destinationInside, replyTo, ifAccepted}
+use Rattle.pixel_convert.specs.Regions.{isYuv, lumaOf, uOf, vOf, opaqueOf, texelOf, yuvValues, valuesOf, texelAt, exactAt, toAt, sourceTexel, sourceValues, regionWritten, convertedBytes, InRegion, NearSource, OthersKept}
 use Rattle.pixel_convert.specs.Own.{region-other, region-own}
+use Rattle.convert_reply.specs.Passed.{convert-rgb, passed}
 
--- ---- the destination of a pair that converts is one
-pub convert-rgb : (s d : ℕ) → canConvert s d ≡ true → isConvertibleRgb d ≡ true
-unfolding canConvert canConvertUpdate isConvertibleRgb
-convert-rgb s d h = go (isConvertibleRgb s || isPackedYuv s) (isConvertibleRgb d) (eqb d A8R8G8B8) (isArgbSource s) (isPlanarYuv s) refl refl h
-  where
-    go : (a b c w p : Bool) → isConvertibleRgb d ≡ b → eqb d A8R8G8B8 ≡ c → ((a && b) || (c && w) || (p && b)) ≡ true → isConvertibleRgb d ≡ true
-    go a true c w p e f k = e
-    go a false true w p e f k = ap isConvertibleRgb (eqb-true d A8R8G8B8 f)
-    go true false false w true e f k = absurd (false≢true k)
-    go true false false w false e f k = absurd (false≢true k)
-    go false false false w true e f k = absurd (false≢true k)
-    go false false false w false e f k = absurd (false≢true k)
-
--- ---- what an accepted region that has a texel passed
-pub record Passed (s d : ℕ) (r : ConvertRegion) (n m : ℕ) : Type 0 where
-  pub pair : canConvert s d ≡ true
-  pub shape : badPlanarShape s r ≡ false
-  pub source : sourceInside n s r ≡ true
-  pub destination : destinationInside m d r ≡ true
-
+-- ---- a region with a texel
 pub not-empty : (r : ConvertRegion) (z row col : ℕ) → InRegion r z row col → isEmpty r ≡ false
 unfolding isEmpty
 not-empty r z row col t =
     rw (ne-eqb (r .width) 0 (λ e. omega (arith, t .column)), ne-eqb (r .height) 0 (λ e. omega (arith, t .line)), ne-eqb (r .depth) 0 (λ e. omega (arith, t .slice))) refl
-
-pub passed : (s d : ℕ) (r : ConvertRegion) (n m : ℕ) → isEmpty r ≡ false → replyTo s d r n m ≡ Accepted → Passed s d r n m
-unfolding replyTo
-passed s d r n m ne h = go (canConvert s d) (badPlanarShape s r) (isEmpty r) (sourceInside n s r) (destinationInside m d r) refl refl ne refl refl h
-  where
-    clash : (a b : ℕ) → a ≡ b → a < b → Passed s d r n m
-    clash a b e l = absurd (omega arith)
-
-    go : (c p e si di : Bool) → canConvert s d ≡ c → badPlanarShape s r ≡ p → e ≡ false → sourceInside n s r ≡ si → destinationInside m d r ≡ di
-        → pick (not c) Unsupported (pick p PlanarShape (pick e Accepted (pick (not si) SourceOutside (pick (not di) DestinationOutside Accepted)))) ≡ Accepted → Passed s d r n m
-    go true false false true true a b f g i k = record { pair = a; shape = b; source = g; destination = i }
-    go true false false true false a b f g i k = let x : _≡_ {A = ℕ} 0 1 = cc in clash 0 1 x (omega arith)
-    go true false false false di a b f g i k = let x : _≡_ {A = ℕ} 0 1 = cc in clash 0 1 x (omega arith)
-    go true false true si di a b f g i k = absurd (false≢true (sym f))
-    go true true e si di a b f g i k = let x : _≡_ {A = ℕ} 0 1 = cc in clash 0 1 x (omega arith)
-    go false p e si di a b f g i k = let x : _≡_ {A = ℕ} 0 1 = cc in clash 0 1 x (omega arith)
 
 -- ---- a destination texel's bytes lie within the destination
 pub destination-fits : (d : ℕ) (r : ConvertRegion) (m : ℕ) → isConvertibleRgb d ≡ true → destinationInside m d r ≡ true

@@ -1,39 +1,29 @@
--- What converting a region is: the reply, the bytes, and what holds of them.
+-- What converting a region is: the bytes, and what holds of them.
 -- Assumes nothing.
 use mathlib.Core.Path.{_≡_}
-use mathlib.Core.Bool.{Bool, true, not, _&&_, _||_}
-use mathlib.Core.List.{List, [], _∷_}
+use mathlib.Core.Bool.{Bool, true, _||_}
+use mathlib.Core.List.{List}
 use Prim.Native.Nat.{ℕ, _+_, _%_, _≤_, _<_}
 use lib.Dec.{eqb}
-use lib.ListN.{length, getD, take, drop}
+use lib.ListN.{getD, take, drop}
 use lib.Seq.{sets}
 use Rattle.words.specs.Tests.{pick}
 use Rattle.words.specs.Little.{number}
 use Rattle.words.specs.Iterate.{iterate}
-use Rattle.formats.specs.Codes.{A8R8G8B8}
 use Rattle.formats.specs.Lanes.{Channel}
 use Rattle.formats.specs.Table.{laneOf, bytesOf}
-use Rattle.formats.specs.Classes.{isConvertibleRgb, isPackedYuv, isPlanarYuv, isArgbSource}
+use Rattle.formats.specs.Classes.{isPackedYuv, isPlanarYuv}
 use Rattle.channels.specs.Fractions.{_over_}
 use Rattle.stretch_rect.specs.declared.Rgb.{Rgb}
 use Rattle.stretch_rect.specs.Yuv.{bt601, rgbOf, decimalUnit, redDecimal, greenDecimal, blueDecimal}
 use Rattle.stretch_rect.specs.Samples.{lumaPlace, uPlace, vPlace}
 use Rattle.stretch_rect.specs.Exact.{clampedValue}
 use Rattle.texels.specs.declared.Texel.{Texel}
-use Rattle.pixel_convert.specs.declared.ConvertRegion.{ConvertRegion}
-use Rattle.pixel_convert.specs.declared.ConvertReply.{ConvertReply}
-use Rattle.pixel_convert.specs.declared.ConvertReply.the-variants.{Accepted, Unsupported, PlanarShape, SourceOutside, DestinationOutside}
+use Rattle.convert_reply.specs.declared.ConvertRegion.{ConvertRegion}
+use Rattle.convert_reply.specs.declared.ConvertReply.the-variants.{Accepted}
 use Rattle.texels.specs.Texels.{decodedOf, encodedBytes, exactOf, Values, valueOf, isColour, Holds}
-use Rattle.places.specs.Places.{texelStart, placesAt, bytesAt, insideAll}
-
--- ---- which pairs of formats convert
--- pairs that the Update calls take: RGB and packed YUV into RGB
-unfoldable pub canConvertUpdate : (source destination : ℕ) → Bool
-canConvertUpdate s d = (isConvertibleRgb s || isPackedYuv s) && isConvertibleRgb d
-
--- these, a source of A8R8G8B8 alone into that, and a planar source into RGB
-unfoldable pub canConvert : (source destination : ℕ) → Bool
-canConvert s d = canConvertUpdate s d || (eqb d A8R8G8B8 && isArgbSource s) || (isPlanarYuv s && isConvertibleRgb d)
+use Rattle.places.specs.Places.{texelStart, placesAt, bytesAt}
+use Rattle.convert_reply.specs.Replies.{convertReply, ifAccepted}
 
 -- ---- the texel of a source
 -- where luma, U and V stand in a YUV texel's bytes: in a macropixel by its format, in a planar texel in that order
@@ -78,56 +68,6 @@ texelAt src f pitch slice-pitch z y x = texelOf f (eqb (x % 2) 1) (bytesAt src (
 unfoldable pub exactAt : (src : List ℕ) (f pitch slice-pitch z y x : ℕ) → Values
 exactAt src f pitch slice-pitch z y x = valuesOf f (eqb (x % 2) 1) (bytesAt src (placesAt f pitch slice-pitch z y x))
 
--- ---- the reply
--- a planar source that has more than one slice, no pitch, or a slice that is no whole number of rows
-unfoldable pub badPlanarShape : (f : ℕ) → ConvertRegion → Bool
-badPlanarShape f r =
-    isPlanarYuv f
-    && (not (eqb (r .depth) 1) || eqb (r .«src_pitch») 0 || not (eqb (r .«src_slice_pitch» % r .«src_pitch») 0))
-
-unfoldable pub isEmpty : ConvertRegion → Bool
-isEmpty r = eqb (r .width) 0 || eqb (r .height) 0 || eqb (r .depth) 0
-
-unfoldable pub sourceInside : (len f : ℕ) → ConvertRegion → Bool
-sourceInside len f r = insideAll len f (r .«src_pitch») (r .«src_slice_pitch») (r .«src_x») (r .«src_y») (r .width) (r .height) (r .depth)
-
-unfoldable pub destinationInside : (len f : ℕ) → ConvertRegion → Bool
-destinationInside len f r = insideAll len f (r .«dst_pitch») (r .«dst_slice_pitch») (r .«dst_x») (r .«dst_y») (r .width) (r .height) (r .depth)
-
--- a test and the reply where it is met
-pub record Check : Type 0 where
-  pub met : Bool
-  pub reply : ConvertReply
-
--- the reply of the first check that is met
-abbrev pub firstMet : List Check → ConvertReply → ConvertReply
-firstMet [] otherwise = otherwise
-firstMet (c ∷ cs) otherwise = pick (c .met) (c .reply) (firstMet cs otherwise)
-
--- the checks, in order; an empty region is accepted
-unfoldable pub replyTo : (source destination : ℕ) → ConvertRegion → (source-length destination-length : ℕ) → ConvertReply
-replyTo s d r n m =
-    firstMet
-    (record { met = not (canConvert s d); reply = Unsupported }
-    ∷ record { met = badPlanarShape s r; reply = PlanarShape }
-    ∷ record { met = isEmpty r; reply = Accepted }
-    ∷ record { met = not (sourceInside n s r); reply = SourceOutside }
-    ∷ record { met = not (destinationInside m d r); reply = DestinationOutside }
-    ∷ [])
-    Accepted
-
--- the reply to two buffers
-abbrev pub convertReply : (src dst : List ℕ) (source destination : ℕ) → ConvertRegion → ConvertReply
-convertReply src dst s d r = replyTo s d r (length src) (length dst)
-
--- document 01's number of a reply
-abbrev pub replyNumber : ConvertReply → ℕ
-replyNumber Accepted = 0
-replyNumber Unsupported = 1
-replyNumber PlanarShape = 2
-replyNumber SourceOutside = 3
-replyNumber DestinationOutside = 4
-
 -- ---- the bytes
 -- where the destination texel at (z, row, col) of a region starts
 unfoldable pub toAt : (d : ℕ) → ConvertRegion → (z row col : ℕ) → ℕ
@@ -153,13 +93,6 @@ sliceWritten src s d r z = iterate (rowWritten src s d r z) (r .height)
 -- every texel written, by slice, row and column
 unfoldable pub regionWritten : (src : List ℕ) (s d : ℕ) → ConvertRegion → List ℕ → List ℕ
 regionWritten src s d r = iterate (sliceWritten src s d r) (r .depth)
-
-abbrev pub ifAccepted {ℓ} : {A : Type ℓ} → ConvertReply → A → A → A
-ifAccepted Accepted a b = a
-ifAccepted Unsupported a b = b
-ifAccepted PlanarShape a b = b
-ifAccepted SourceOutside a b = b
-ifAccepted DestinationOutside a b = b
 
 -- the destination after the call: refused, it is as it was
 unfoldable pub convertedBytes : (src dst : List ℕ) (s d : ℕ) → ConvertRegion → List ℕ

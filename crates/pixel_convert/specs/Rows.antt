@@ -5,9 +5,10 @@ use mathlib.Core.List.{List}
 use Prim.Native.Nat.{ℕ, _+_, _*_, _/_, _%_, _≤_, _<_}
 use Rattle.words.specs.Iterate.{iterate, iterate-flat, iterate-add}
 use Rattle.formats.specs.Table.{bytesOf}
-use Rattle.pixel_convert.specs.declared.ConvertRegion.{ConvertRegion}
+use Rattle.convert_reply.specs.declared.ConvertRegion.{ConvertRegion}
 use Rattle.places.specs.Inside.{TexelFits}
-use Rattle.pixel_convert.specs.Regions.{canConvert, toAt, rowWritten, sliceWritten, regionWritten}
+use Rattle.convert_reply.specs.Replies.{canConvert}
+use Rattle.pixel_convert.specs.Regions.{toAt, rowWritten, sliceWritten, regionWritten}
 
 -- the texels of row row of slice z lie within the source and the destination, and the formats convert
 pub record RowFits (n m s d : ℕ) (r : ConvertRegion) (z row : ℕ) : Type 0 where

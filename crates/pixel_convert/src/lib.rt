@@ -1,75 +1,26 @@
 // Conversion of a region of texels from one format into another: the RGB formats into each other, packed and planar YUV into RGB,
-// and wide, ten-bit, 16-bit and signed formats into A8R8G8B8. Refused, before any byte is written: a pair that does not convert, a planar
-// source that is no single slice of whole rows, and a region with a texel outside the source or the destination. specs/Regions has
-// the reply, the bytes and what is promised of them; what texels decode and encode to is in the crate `texels`, how they go by
-// blocks in `blocks`, where they lie in `places`.
+// and wide, ten-bit, 16-bit and signed formats into A8R8G8B8. specs/Regions has the bytes and what is promised of them; the reply is in
+// the crate `convert_reply`, what texels decode and encode to in `texels`, how they go by blocks in `blocks`, where they lie in `places`.
 // Ported from pixel_convert.rs of athei/mtld3d (an altered version, see NOTICE).
 ghost use mathlib.Core.Path.{_≡_};
-ghost use mathlib.Core.Bool.{true, false, _&&_};
+ghost use mathlib.Core.Bool.{true, false};
 ghost use Prim.Native.Nat.{ℕ, _+_, _≤_, _<_, _%_, _/_, min};
 ghost use lib.Dec.{eqb};
 ghost use lib.ListN.{length, take};
-ghost use lib.Seq.{sets};
-ghost use Rattle.formats.specs.Codes.{A8R8G8B8};
 ghost use Rattle.formats.specs.Table.{bytesOf};
-ghost use Rattle.formats.specs.Classes.{isConvertibleRgb, isPackedYuv, isPlanarYuv, isCodeSource, isArgbSource, isLaneSource};
+ghost use Rattle.formats.specs.Classes.{isPackedYuv, isPlanarYuv, isCodeSource, isLaneSource};
 ghost use Rattle.planar_yuv.specs.Answers.{Legal};
-ghost use Rattle.texels.specs.Texels.{encodedBytes};
-ghost use Rattle.places.specs.Places.{isPicture, texelStart, layoutPlaces, placesAt, placesIn, bytesAt};
+ghost use Rattle.places.specs.Places.{isPicture, layoutPlaces, placesAt, placesIn, bytesAt};
 ghost use Rattle.places.specs.Planar.{LayoutFor};
-ghost use Rattle.pixel_convert.specs.Regions.{opaqueOf, texelOf, texelAt, canConvertUpdate, canConvert, badPlanarShape, isEmpty, sourceInside, destinationInside, replyTo, convertReply, replyNumber, rowWritten, sliceWritten, regionWritten, convertedBytes, NearSource, OthersKept};
+ghost use Rattle.convert_reply.specs.Replies.{convertReply};
+ghost use Rattle.pixel_convert.specs.Regions.{opaqueOf, texelOf, texelAt, rowWritten, sliceWritten, regionWritten, convertedBytes, NearSource, OthersKept};
 ghost use Rattle.pixel_convert.specs.Rows.{RowFits};
+use convert_reply::ConvertRegion;
+use convert_reply::ConvertReply;
 use formats::D3DFMT_A8R8G8B8;
 use planar_yuv::PlanarYuvLayout;
 use stretch_rect::Rgb;
 use texels::Texel;
-
-// One conversion: the shared extent and both origins in texels, both layouts in bytes. `depth` counts the slices, which lie a
-// slice pitch apart.
-pub struct ConvertRegion {
-    pub src_x: u32,
-    pub src_y: u32,
-    pub dst_x: u32,
-    pub dst_y: u32,
-    pub width: u32,
-    pub height: u32,
-    pub src_pitch: usize,
-    pub dst_pitch: usize,
-    pub src_slice_pitch: usize,
-    pub dst_slice_pitch: usize,
-    pub depth: usize,
-}
-
-// What a conversion answers; `replyNumber` of specs/ has document 01's numbers, 0 to 4 in this order.
-pub enum ConvertReply {
-    Accepted,
-    Unsupported,
-    PlanarShape,
-    SourceOutside,
-    DestinationOutside,
-}
-
-impl ConvertReply {
-    // Document 01's number of the reply.
-    pub fn number(self) -> u32
-        ensures { λ r. ⌜ r ≡ replyNumber self ⌝ }
-    {
-        match self {
-            ConvertReply::Accepted => 0,
-            ConvertReply::Unsupported => 1,
-            ConvertReply::PlanarShape => 2,
-            ConvertReply::SourceOutside => 3,
-            ConvertReply::DestinationOutside => 4,
-        }
-    }
-
-    // Whether the reply is no refusal.
-    pub fn is_accepted(self) -> bool
-        ensures { λ r. ⌜ r ≡ eqb (replyNumber self) 0 ⌝ }
-    {
-        self.number() == 0
-    }
-}
 
 // ---- one texel from source to destination
 
@@ -321,143 +272,6 @@ fn convert_slices(
     }
 }
 
-// Whether UpdateSurface and UpdateTexture convert this source format into this destination format.
-pub fn can_convert_update(src_format: u32, dst_format: u32) -> bool
-    ensures { λ r. ⌜ r ≡ canConvertUpdate «src_format» «dst_format» ⌝ }
-{
-    if !formats::is_convertible_rgb(dst_format) {
-        return false;
-    }
-    if formats::is_convertible_rgb(src_format) {
-        return true;
-    }
-    formats::is_packed_yuv(src_format)
-}
-
-fn is_argb_pair(src_format: u32, dst_format: u32) -> bool
-    ensures { λ r. ⌜ r ≡ (eqb «dst_format» A8R8G8B8 && isArgbSource «src_format») ⌝ }
-{
-    if dst_format == D3DFMT_A8R8G8B8 {
-        return formats::is_argb_source(src_format);
-    }
-    false
-}
-
-fn is_planar_pair(src_format: u32, dst_format: u32) -> bool
-    ensures { λ r. ⌜ r ≡ (isPlanarYuv «src_format» && isConvertibleRgb «dst_format») ⌝ }
-{
-    if formats::is_planar_yuv(src_format) {
-        return formats::is_convertible_rgb(dst_format);
-    }
-    false
-}
-
-// Whether `convert_region` converts this source format into this destination format.
-pub fn can_convert(src_format: u32, dst_format: u32) -> bool
-    ensures { λ r. ⌜ r ≡ canConvert «src_format» «dst_format» ⌝ }
-{
-    if can_convert_update(src_format, dst_format) {
-        return true;
-    }
-    if is_argb_pair(src_format, dst_format) {
-        return true;
-    }
-    is_planar_pair(src_format, dst_format)
-}
-
-// Whether a planar source has more than one slice, no pitch, or a slice that is no whole number of rows.
-fn bad_planar_shape(src_format: u32, region: ConvertRegion) -> bool
-    ensures { λ r. ⌜ r ≡ badPlanarShape «src_format» region ⌝ }
-{
-    if !formats::is_planar_yuv(src_format) {
-        return false;
-    }
-    if region.depth != 1 {
-        return true;
-    }
-    if region.src_pitch == 0 {
-        return true;
-    }
-    region.src_slice_pitch % region.src_pitch != 0
-}
-
-// Whether every source texel of a region that is not empty lies within len bytes.
-fn source_inside(len: usize, src_format: u32, region: ConvertRegion) -> bool
-    requires { ⌜ (isPicture «src_format» ≡ true) × (isEmpty region ≡ false) ⌝ }
-    ensures { λ r. ⌜ r ≡ sourceInside len «src_format» region ⌝ }
-{
-    places::inside(
-        len,
-        src_format,
-        region.src_pitch,
-        region.src_slice_pitch,
-        region.src_x,
-        region.src_y,
-        region.width,
-        region.height,
-        region.depth,
-    )
-}
-
-// The same of the destination.
-fn destination_inside(len: usize, dst_format: u32, region: ConvertRegion) -> bool
-    requires { ⌜ (isPicture «dst_format» ≡ true) × (isEmpty region ≡ false) ⌝ }
-    ensures { λ r. ⌜ r ≡ destinationInside len «dst_format» region ⌝ }
-{
-    places::inside(
-        len,
-        dst_format,
-        region.dst_pitch,
-        region.dst_slice_pitch,
-        region.dst_x,
-        region.dst_y,
-        region.width,
-        region.height,
-        region.depth,
-    )
-}
-
-// Whether a region has no texel.
-fn is_empty(region: ConvertRegion) -> bool
-    ensures { λ r. ⌜ r ≡ isEmpty region ⌝ }
-{
-    if region.width == 0 {
-        return true;
-    }
-    if region.height == 0 {
-        return true;
-    }
-    region.depth == 0
-}
-
-// The reply to a conversion, from the lengths of its buffers: the checks of document 01 in their order.
-fn check(
-    src_len: usize,
-    src_format: u32,
-    dst_len: usize,
-    dst_format: u32,
-    region: ConvertRegion,
-) -> ConvertReply
-    ensures { λ r. ⌜ r ≡ replyTo «src_format» «dst_format» region «src_len» «dst_len» ⌝ }
-{
-    if !can_convert(src_format, dst_format) {
-        return ConvertReply::Unsupported;
-    }
-    if bad_planar_shape(src_format, region) {
-        return ConvertReply::PlanarShape;
-    }
-    if is_empty(region) {
-        return ConvertReply::Accepted;
-    }
-    if !source_inside(src_len, src_format, region) {
-        return ConvertReply::SourceOutside;
-    }
-    if !destination_inside(dst_len, dst_format, region) {
-        return ConvertReply::DestinationOutside;
-    }
-    ConvertReply::Accepted
-}
-
 // Converts a region of `src` into `dst`, by slice, row and column. The reply is decided before the first byte is
 // written; refused, `dst` is as it was.
 pub fn convert_region(
@@ -472,11 +286,11 @@ pub fn convert_region(
     ensures near { λ _. ⌜ NearSource (now (src .entry)) (now (dst .entry)) (now (dst .exit)) «src_format» «dst_format» region ⌝ }
     ensures kept { λ _. ⌜ OthersKept (now (dst .entry)) (now (dst .exit)) «dst_format» region ⌝ }
 {
-    let reply = check(src.len(), src_format, dst.len(), dst_format, region);
+    let reply = convert_reply::check(src.len(), src_format, dst.len(), dst_format, region);
     if !reply.is_accepted() {
         return reply;
     }
-    if is_empty(region) {
+    if convert_reply::is_empty(region) {
         return reply;
     }
     convert_slices(dst, dst_format, src, src_format, region);

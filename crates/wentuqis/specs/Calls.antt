@@ -3,7 +3,7 @@
 use mathlib.Core.List.{List, [], _∷_}
 use Prim.Native.Nat.{ℕ}
 use lib.ListN.{getD}
-use Rattle.pixel_convert.specs.declared.ConvertRegion.{ConvertRegion}
+use Rattle.convert_reply.specs.declared.ConvertRegion.{ConvertRegion}
 use Rattle.planar_yuv.specs.Offsets.{uOffset, vOffset}
 use Rattle.planar_yuv.specs.Apart.{Planes}
 use Rattle.planar_yuv.specs.Answers.{Reply}

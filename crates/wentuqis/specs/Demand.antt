@@ -8,7 +8,7 @@ use lib.Dec.{lit<}
 use lib.ListN.{length, getD}
 use Rattle.words.specs.Little.{small-list}
 use Rattle.words.specs.Tests.{pick}
-use Rattle.pixel_convert.specs.declared.ConvertRegion.{ConvertRegion}
+use Rattle.convert_reply.specs.declared.ConvertRegion.{ConvertRegion}
 use Rattle.pixel_convert.specs.Regions.{convertedBytes, NearSource}
 use Rattle.pixel_convert.specs.Promises.{near-source}
 use Rattle.depth_texture.specs.declared.PlaneLayout.{PlaneLayout}

@@ -6,9 +6,10 @@ use Prim.Native.Nat.{ℕ, _<_}
 use native.Mathlib.Omega.{arith}
 use lib.ListN.{length}
 use borrow.Author.Tests.{ne-eqb}
-use Rattle.pixel_convert.specs.declared.ConvertRegion.{ConvertRegion}
-use Rattle.pixel_convert.specs.declared.ConvertReply.{ConvertReply}
-use Rattle.pixel_convert.specs.declared.ConvertReply.the-variants.{Accepted, Unsupported, PlanarShape, SourceOutside, DestinationOutside}
+use Rattle.convert_reply.specs.declared.ConvertRegion.{ConvertRegion}
+use Rattle.convert_reply.specs.declared.ConvertReply.{ConvertReply}
+use Rattle.convert_reply.specs.declared.ConvertReply.the-variants.{Accepted, Unsupported, PlanarShape, SourceOutside, DestinationOutside}
+use Rattle.convert_reply.specs.Replies as replies
 use Rattle.pixel_convert.specs.Regions as regions
 use Rattle.depth_texture.specs.declared.PlaneLayout.{PlaneLayout}
 use Rattle.depth_texture.specs.Replies.{refusalOf}
@@ -17,16 +18,16 @@ use Rattle.depth_pixels.specs.Pixels.{KeepsAll}
 use Rattle.depth_texture.specs.Promises.{firstRefusal, Restores, SamePixels}
 
 -- ---- a refused conversion
-unaccepted : {A : Type 0} (q : ConvertReply) (a b : A) → 0 < regions.replyNumber q → regions.ifAccepted q a b ≡ b
+unaccepted : {A : Type 0} (q : ConvertReply) (a b : A) → 0 < replies.replyNumber q → replies.ifAccepted q a b ≡ b
 unaccepted Accepted a b h = absurd (omega arith)
 unaccepted Unsupported a b h = refl
 unaccepted PlanarShape a b h = refl
 unaccepted SourceOutside a b h = refl
 unaccepted DestinationOutside a b h = refl
 
-pub conversion-refused : (src dst : List ℕ) (s d : ℕ) (r : ConvertRegion) → 0 < regions.replyNumber (regions.convertReply src dst s d r) → regions.convertedBytes src dst s d r ≡ dst
+pub conversion-refused : (src dst : List ℕ) (s d : ℕ) (r : ConvertRegion) → 0 < replies.replyNumber (replies.convertReply src dst s d r) → regions.convertedBytes src dst s d r ≡ dst
 unfolding regions.convertedBytes
-conversion-refused src dst s d r h = unaccepted (regions.convertReply src dst s d r) (regions.regionWritten src s d r dst) dst h
+conversion-refused src dst s d r h = unaccepted (replies.convertReply src dst s d r) (regions.regionWritten src s d r dst) dst h
 
 -- ---- two calls, the second only where the first is accepted
 first-refused : (a b : ℕ) → (a ≡ 0 → ⊥) → firstRefusal a b ≡ a

@@ -18,11 +18,13 @@ use Rattle.channels.specs.Nearest as bytewise
 use Rattle.channels.specs.Luminance as mean
 use Rattle.stretch_rect.specs.Yuv as yuv
 use Rattle.stretch_rect.specs.Yuv.{bt601, rgbOf}
-use Rattle.pixel_convert.specs.declared.ConvertRegion.{ConvertRegion}
+use Rattle.convert_reply.specs.declared.ConvertRegion.{ConvertRegion}
 use Rattle.texels.specs.Texels as texels
 use Rattle.places.specs.Places as places
+use Rattle.convert_reply.specs.Replies as checks
 use Rattle.pixel_convert.specs.Regions as regions
-use Rattle.pixel_convert.specs.Regions.{convertReply, convertedBytes, replyNumber}
+use Rattle.convert_reply.specs.Replies.{convertReply, replyNumber}
+use Rattle.pixel_convert.specs.Regions.{convertedBytes}
 use Rattle.binary16.specs.Half as binary16
 use Rattle.binary16.specs.Half.{halfOf}
 use Rattle.convert.specs.Fill as fill
@@ -136,7 +138,7 @@ unfolding integers.clampTo
     yuv.lumaExact yuv.chromaExact yuv.lumaPart yuv.chromaPart yuv.nearestWhole yuv.redRounded yuv.greenRounded yuv.blueRounded yuv.rgbOf
     texels.colourOf texels.decodedOf texels.encodedOf texels.encodedBytes
     places.texelStart places.placesAt places.placesIn places.bytesAt places.texelIn places.insideAll
-    regions.canConvertUpdate regions.canConvert regions.texelOf regions.texelAt regions.badPlanarShape regions.isEmpty regions.sourceInside regions.destinationInside regions.replyTo regions.toAt regions.sourceTexel regions.written regions.rowWritten regions.sliceWritten regions.regionWritten regions.convertedBytes
+    checks.canConvertUpdate checks.canConvert checks.badPlanarShape checks.isEmpty checks.sourceInside checks.destinationInside checks.replyTo regions.texelOf regions.texelAt regions.toAt regions.sourceTexel regions.written regions.rowWritten regions.sliceWritten regions.regionWritten regions.convertedBytes
     rules.allowed
     offsets.nv12U offsets.yv12V offsets.yv12U offsets.uOffset offsets.vOffset
     answers.fromPitch answers.fromWidth

@@ -7,7 +7,8 @@ ghost use Prim.Native.Nat.{_≤_, _<_};
 ghost use lib.ListN.{length, getD};
 ghost use Rattle.planar_yuv.specs.Answers.{replyOf, fromPitch, fromWidth};
 ghost use Rattle.stretch_rect.specs.Yuv.{bt601, rgbOf, RgbNear, decimalUnit, decimalSlack, redDecimal, greenDecimal, blueDecimal};
-ghost use Rattle.pixel_convert.specs.Regions.{canConvert, canConvertUpdate, convertReply, convertedBytes, replyNumber, NearSource, OthersKept};
+ghost use Rattle.convert_reply.specs.Replies.{canConvert, canConvertUpdate, convertReply, replyNumber};
+ghost use Rattle.pixel_convert.specs.Regions.{convertedBytes, NearSource, OthersKept};
 ghost use Rattle.formats.specs.Table.{bytesOf};
 ghost use Rattle.formats.specs.Lanes.{red, green, blue, alpha};
 ghost use Rattle.binary16.specs.Half.{halfOf, HalfOf};
@@ -23,9 +24,9 @@ ghost use Rattle.depth_pixels.specs.Pixels.{KeepsAll};
 ghost use Rattle.depth_texture.specs.Promises.{firstRefusal, Restores, SamePixels, PlanesKept, SameElsewhere, NearestCodes};
 ghost use Rattle.wentuqis.specs.Calls.{regionOf, rgbList, colourIn, planarValues, PlanesApart, planeValues, planesIn};
 use convert::FillReply;
+use convert_reply::ConvertRegion;
 use depth_texture::PlaneLayout;
 use depth_texture::PlaneLayoutAnswer;
-use pixel_convert::ConvertRegion;
 use planar_yuv::PlanarYuvAnswer;
 
 // ---- conversion
@@ -35,7 +36,7 @@ use planar_yuv::PlanarYuvAnswer;
 pub extern "C" fn wentuqis_can_convert(src_format: u32, dst_format: u32) -> bool
     ensures { λ r. ⌜ r ≡ canConvert «src_format» «dst_format» ⌝ }
 {
-    pixel_convert::can_convert(src_format, dst_format)
+    convert_reply::can_convert(src_format, dst_format)
 }
 
 // No refusal: whether UpdateSurface and UpdateTexture take the pair.
@@ -43,7 +44,7 @@ pub extern "C" fn wentuqis_can_convert(src_format: u32, dst_format: u32) -> bool
 pub extern "C" fn wentuqis_can_convert_update(src_format: u32, dst_format: u32) -> bool
     ensures { λ r. ⌜ r ≡ canConvertUpdate «src_format» «dst_format» ⌝ }
 {
-    pixel_convert::can_convert_update(src_format, dst_format)
+    convert_reply::can_convert_update(src_format, dst_format)
 }
 
 // Refusals 1 to 4.

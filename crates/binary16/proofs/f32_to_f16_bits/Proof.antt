@@ -1,12 +1,12 @@
 -- `binary16::f32_to_f16_bits` meets its contract: the code by the pattern's range, with the sign above it. Assumes nothing.
 use mathlib.Core.Path.{_≡_, refl, sym, ap, _∙_, subst}
-use Prim.Native.Nat.{ℕ, _+_, _*_, _/_, _%_, _≤_, _<_, _^_}
+use Prim.Native.Nat.{ℕ, _+_, _*_, _/_, _%_, _<_, _^_}
 use native.Mathlib.Nat.{add-zero}
 use native.Mathlib.Omega.{arith}
 use lib.Ieee.{binary32, ofBits}
 use borrow.Author.Needs.{needs}
 use Rattle.binary16.specs.Half.{codeOf, code-small, halfOf, HalfOf, half-of, nearestHalf}
-use Rattle.binary16.specs.Patterns.{nan-code, overflow-code, zero-code, unit-code, middle-code, floatUnits}
+use Rattle.binary16.specs.Patterns.{nan-code, overflow-code, zero-code, unit-code, nearest-code, floatUnits}
 use Rattle.binary16.proofs.f32_to_f16_bits.Statement.{statement}
 use Rattle.binary16.proofs.f32_to_f16_bits.Tie as tie
 
@@ -18,11 +18,11 @@ answer b k r e f =
     (g, subst (HalfOf b) (sym g) (half-of b))
 
 -- the sign does not count for the code
-signless : (b : ℕ) → 0x33800000 ≤ b % 2147483648 → b % 2147483648 < 0x477ff000 → codeOf (ofBits binary32 b) ≡ codeOf (ofBits binary32 (b % 2147483648))
-signless b h l =
+signless : (b : ℕ) → b % 2147483648 < 0x477ff000 → codeOf (ofBits binary32 b) ≡ codeOf (ofBits binary32 (b % 2147483648))
+signless b l =
     let e : b % 2147483648 % 2147483648 ≡ b % 2147483648 = omega arith in
-    middle-code b h l
-    ∙ sym (subst (λ (a : ℕ). codeOf (ofBits binary32 (b % 2147483648)) ≡ nearestHalf (floatUnits a) (2 ^ 125)) e (middle-code (b % 2147483648) (omega arith) (omega arith)))
+    nearest-code b l
+    ∙ sym (subst (λ (a : ℕ). codeOf (ofBits binary32 (b % 2147483648)) ≡ nearestHalf (floatUnits a) (2 ^ 125)) e (nearest-code (b % 2147483648) (omega arith)))
 
 mul-sign : tie.Need-mul-sign
 mul-sign c = search needs
@@ -64,7 +64,7 @@ nearest-f16-requires : tie.Need-nearest-f16-requires
 nearest-f16-requires c κs = search needs
 
 found : (c : tie.After-nearest-f16) → codeOf (ofBits binary32 (c .before .before .before .args .bits)) ≡ c .nearest-f16 .result
-found c = signless (c .before .before .before .args .bits) (c .before .if3 .left) (c .before .before .if1 .left) ∙ sym (c .nearest-f16 .ensures)
+found c = signless (c .before .before .before .args .bits) (c .before .before .if1 .left) ∙ sym (c .nearest-f16 .ensures)
 
 add-result-4 : tie.Need-add-result-4
 add-result-4 c = omega (arith, found c, code-small (ofBits binary32 (c .before .before .before .args .bits)))

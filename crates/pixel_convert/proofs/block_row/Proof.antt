@@ -12,7 +12,7 @@ use Rattle.texels.specs.Texels.{encodedBytes}
 use Rattle.blocks.specs.Blocks.{wordOf}
 use Rattle.places.specs.Places.{texelStart}
 use Rattle.pixel_convert.specs.Regions.{toAt, texelAt, sourceTexel, written, rowWritten}
-use Rattle.pixel_convert.specs.Promises.{convert-rgb}
+use Rattle.convert_reply.specs.Passed.{convert-rgb}
 use Rattle.pixel_convert.specs.Carried.{Carried, read-room, write-room, block-rows, block-texels, block-carried, first-carried, row-read, row-write, lying-row}
 use borrow.Author.Needs.{needs}
 use Rattle.pixel_convert.proofs.block_row.Statement.{statement}

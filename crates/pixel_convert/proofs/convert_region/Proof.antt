@@ -7,8 +7,9 @@ use lib.Dec.{eqb}
 use lib.ListN.{getD}
 use borrow.Author.Tests.{not-true, not-false}
 use denote.Ref.{now}
-use Rattle.pixel_convert.specs.Regions.{replyNumber}
-use Rattle.pixel_convert.specs.Answers.{is-accepted, refused, accepted, empty, promised, rows-fit}
+use Rattle.convert_reply.specs.Replies.{replyNumber}
+use Rattle.convert_reply.specs.Passed.{is-accepted}
+use Rattle.pixel_convert.specs.Answers.{refused, accepted, empty, promised, rows-fit}
 use borrow.Author.Needs.{needs}
 use Rattle.pixel_convert.proofs.convert_region.Statement.{statement}
 use Rattle.pixel_convert.proofs.convert_region.Tie as tie

@@ -15,9 +15,8 @@ use Rattle.places.specs.Inside.{TexelFits}
 use Rattle.places.specs.Places.{texelStart}
 use Rattle.pixel_convert.specs.Regions.{toAt, texelAt, sourceTexel, written, rowWritten}
 use Rattle.texels.specs.Words.{texel-back}
-use Rattle.pixel_convert.specs.Promises.{convert-rgb}
+use Rattle.convert_reply.specs.Passed.{convert-rgb, convert-picture}
 use Rattle.pixel_convert.specs.Carried.{CarriedAt, at-first, at-next}
-use Rattle.pixel_convert.specs.Answers.{convert-picture}
 use borrow.Author.Needs.{needs}
 use Rattle.pixel_convert.proofs.texel_row.Statement.{statement}
 use Rattle.pixel_convert.proofs.texel_row.Tie as tie

@@ -1,6 +1,6 @@
 -- `wentuqis::wentuqis_convert_region` meets its contract: the inner call, its reply as document 01's number. Assumes nothing.
 use mathlib.Core.Path.{ap, _∙_}
-use Rattle.pixel_convert.specs.Regions.{replyNumber}
+use Rattle.convert_reply.specs.Replies.{replyNumber}
 use borrow.Author.Needs.{needs}
 use Rattle.wentuqis.proofs.wentuqis_convert_region.Statement.{statement}
 use Rattle.wentuqis.proofs.wentuqis_convert_region.Tie as tie

@@ -1,13 +1,12 @@
--- `pixel_convert::check` meets its contract: its tests are those of the definition, in their order. Assumes nothing.
+-- `convert_reply::check` meets its contract: its tests are those of the definition, in their order. Assumes nothing.
 use mathlib.Core.Path.{_≡_, refl, sym, _∙_}
 use mathlib.Core.Bool.{true, false}
 use borrow.Author.Tests.{not-true, not-false}
-use Rattle.pixel_convert.specs.Regions.{canConvert, badPlanarShape, isEmpty, sourceInside, destinationInside, replyTo}
-use Rattle.pixel_convert.specs.Answers.{convert-picture, rgb-picture}
-use Rattle.pixel_convert.specs.Promises.{convert-rgb}
+use Rattle.convert_reply.specs.Replies.{canConvert, badPlanarShape, isEmpty, sourceInside, destinationInside, replyTo}
+use Rattle.convert_reply.specs.Passed.{convert-picture, rgb-picture, convert-rgb}
 use borrow.Author.Needs.{needs}
-use Rattle.pixel_convert.proofs.check.Statement.{statement}
-use Rattle.pixel_convert.proofs.check.Tie as tie
+use Rattle.convert_reply.proofs.check.Statement.{statement}
+use Rattle.convert_reply.proofs.check.Tie as tie
 
 -- what each test showed, from the place where it was passed
 abbrev past-pair : tie.Else2 → tie.Else1

@@ -1,10 +1,10 @@
--- `pixel_convert::is_argb_pair` meets its contract: each test is one of the definition's. Assumes nothing.
+-- `convert_reply::is_argb_pair` meets its contract: each test is one of the definition's. Assumes nothing.
 use mathlib.Core.Path.{refl, _∙_}
 use borrow.Author.Tests.{eq-eqb, ne-eqb}
 use Rattle.formats.specs.Codes.{A8R8G8B8}
 use borrow.Author.Needs.{needs}
-use Rattle.pixel_convert.proofs.is_argb_pair.Statement.{statement}
-use Rattle.pixel_convert.proofs.is_argb_pair.Tie as tie
+use Rattle.convert_reply.proofs.is_argb_pair.Statement.{statement}
+use Rattle.convert_reply.proofs.is_argb_pair.Tie as tie
 
 is-argb-source-requires : tie.Need-is-argb-source-requires
 is-argb-source-requires c κs = search needs

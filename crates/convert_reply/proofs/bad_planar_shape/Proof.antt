@@ -1,12 +1,12 @@
--- `pixel_convert::bad_planar_shape` meets its contract: each test is one of the definition's. Assumes nothing.
+-- `convert_reply::bad_planar_shape` meets its contract: each test is one of the definition's. Assumes nothing.
 use mathlib.Core.Path.{_≡_, refl, sym, _∙_}
 use mathlib.Core.Bool.{true}
 use borrow.Author.Tests.{eq-eqb, ne-eqb, not-true, not-false}
 use Rattle.formats.specs.Classes.{isPlanarYuv}
-use Rattle.pixel_convert.specs.Regions.{badPlanarShape}
+use Rattle.convert_reply.specs.Replies.{badPlanarShape}
 use borrow.Author.Needs.{needs}
-use Rattle.pixel_convert.proofs.bad_planar_shape.Statement.{statement}
-use Rattle.pixel_convert.proofs.bad_planar_shape.Tie as tie
+use Rattle.convert_reply.proofs.bad_planar_shape.Statement.{statement}
+use Rattle.convert_reply.proofs.bad_planar_shape.Tie as tie
 
 planar : (c : tie.Else1) → isPlanarYuv (c .before .before .args .src-format) ≡ true
 planar c = sym (c .before .is-planar-yuv .ensures) ∙ not-false _ (c .if1 .left)

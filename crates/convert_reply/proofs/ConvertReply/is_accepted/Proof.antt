@@ -1,10 +1,10 @@
--- `pixel_convert::ConvertReply::is_accepted` meets its contract: the number is 0 or not. Assumes nothing.
+-- `convert_reply::ConvertReply::is_accepted` meets its contract: the number is 0 or not. Assumes nothing.
 use mathlib.Core.Path.{ap}
 use Prim.Native.Nat.{ℕ}
 use lib.Dec.{eqb}
 use borrow.Author.Needs.{needs}
-use Rattle.pixel_convert.proofs.ConvertReply.is_accepted.Statement.{statement}
-use Rattle.pixel_convert.proofs.ConvertReply.is_accepted.Tie as tie
+use Rattle.convert_reply.proofs.ConvertReply.is_accepted.Statement.{statement}
+use Rattle.convert_reply.proofs.ConvertReply.is_accepted.Tie as tie
 
 number-requires : tie.Need-number-requires
 number-requires c κs = search needs

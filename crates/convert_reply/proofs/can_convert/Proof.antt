@@ -1,9 +1,9 @@
--- `pixel_convert::can_convert` meets its contract: each test is one of the definition's. Assumes nothing.
+-- `convert_reply::can_convert` meets its contract: each test is one of the definition's. Assumes nothing.
 use mathlib.Core.Path.{refl, sym, _∙_}
-use Rattle.pixel_convert.specs.Regions.{canConvert}
+use Rattle.convert_reply.specs.Replies.{canConvert}
 use borrow.Author.Needs.{needs}
-use Rattle.pixel_convert.proofs.can_convert.Statement.{statement}
-use Rattle.pixel_convert.proofs.can_convert.Tie as tie
+use Rattle.convert_reply.proofs.can_convert.Statement.{statement}
+use Rattle.convert_reply.proofs.can_convert.Tie as tie
 
 can-convert-update-requires : tie.Need-can-convert-update-requires
 can-convert-update-requires c κs = search needs

@@ -1,9 +1,9 @@
--- `pixel_convert::is_empty` meets its contract: each test is one of the definition's. Assumes nothing.
+-- `convert_reply::is_empty` meets its contract: each test is one of the definition's. Assumes nothing.
 use mathlib.Core.Path.{refl}
 use borrow.Author.Tests.{eq-eqb, ne-eqb}
-use Rattle.pixel_convert.specs.Regions.{isEmpty}
-use Rattle.pixel_convert.proofs.is_empty.Statement.{statement}
-use Rattle.pixel_convert.proofs.is_empty.Tie as tie
+use Rattle.convert_reply.specs.Replies.{isEmpty}
+use Rattle.convert_reply.proofs.is_empty.Statement.{statement}
+use Rattle.convert_reply.proofs.is_empty.Tie as tie
 
 returns : tie.Need-returns
 unfolding isEmpty

@@ -1,8 +1,8 @@
--- `pixel_convert::is_planar_pair` meets its contract: each test is one of the definition's. Assumes nothing.
+-- `convert_reply::is_planar_pair` meets its contract: each test is one of the definition's. Assumes nothing.
 use mathlib.Core.Path.{refl, sym, _∙_}
 use borrow.Author.Needs.{needs}
-use Rattle.pixel_convert.proofs.is_planar_pair.Statement.{statement}
-use Rattle.pixel_convert.proofs.is_planar_pair.Tie as tie
+use Rattle.convert_reply.proofs.is_planar_pair.Statement.{statement}
+use Rattle.convert_reply.proofs.is_planar_pair.Tie as tie
 
 is-planar-yuv-requires : tie.Need-is-planar-yuv-requires
 is-planar-yuv-requires c κs = search needs

@@ -1,12 +1,12 @@
--- `pixel_convert::can_convert_update` meets its contract: each test is one of the definition's. Assumes nothing.
+-- `convert_reply::can_convert_update` meets its contract: each test is one of the definition's. Assumes nothing.
 use mathlib.Core.Path.{_≡_, refl, sym, _∙_}
 use mathlib.Core.Bool.{Bool, true, false, _&&_, _||_}
 use borrow.Author.Tests.{not-true, not-false}
 use Rattle.formats.specs.Classes.{isConvertibleRgb, isPackedYuv}
-use Rattle.pixel_convert.specs.Regions.{canConvertUpdate}
+use Rattle.convert_reply.specs.Replies.{canConvertUpdate}
 use borrow.Author.Needs.{needs}
-use Rattle.pixel_convert.proofs.can_convert_update.Statement.{statement}
-use Rattle.pixel_convert.proofs.can_convert_update.Tie as tie
+use Rattle.convert_reply.proofs.can_convert_update.Statement.{statement}
+use Rattle.convert_reply.proofs.can_convert_update.Tie as tie
 
 out : (a b : Bool) → b ≡ false → false ≡ (a && b)
 out true b e = sym e
