@@ -4,11 +4,11 @@ use mathlib.Core.Path.{_≡_, refl, sym, ap, _∙_, subst}
 use mathlib.Core.Bool.{Bool, true, false, _&&_}
 use Prim.Native.Nat.{ℕ, _+_, _*_, _/_, _^_, _<_}
 use native.Mathlib.Nat.{add-zero}
+use native.Mathlib.Omega.{arith}
 use lib.Dec.{T, ltb}
 use lib.Ieee.{Float, nan, inf, fin, binary32, up, down, size, ofBits}
-use lib.Ieee.Fits.{down-pos}
 use borrow.Author.Tests.{ltb-true, ltb-false}
-use Rattle.words.specs.Tests.{pick}
+use Rattle.words.specs.Tests.{pick, and-left, and-right}
 use Rattle.binary16.specs.Half.{nearestHalf, magnitudeCode, codeOf, halfOf}
 use Rattle.binary16.specs.Patterns.{magnitude-zero, magnitude-one}
 
@@ -43,32 +43,30 @@ pub tie-with-zero : (halfOf 0x33000000 ≡ 0) × (halfOf 0xb3000000 ≡ 0x8000)
 unfolding halfOf magnitudeCode nearestHalf ofBits size
 tie-with-zero = (refl, refl)
 
+-- the code of a magnitude below 2^-24: 1 above half of it, and else 0
+below-code : (x : Float) → belowUnit x ≡ true → codeOf x ≡ pick (aboveHalf x) 1 0
+below-code nan h = absurd (subst T (sym h) tt)
+below-code (inf s) h = absurd (subst T (sym h) tt)
+below-code (fin s m e) h = go (m * up e * 2 ^ 24) (down e) (ltb-true (m * up e * 2 ^ 24) (down e) h) (ltb (down e) (2 * (m * up e * 2 ^ 24))) refl
+  where
+    go : (n d : ℕ) → n < d → (b : Bool) → ltb d (2 * n) ≡ b → magnitudeCode n d ≡ pick b 1 0
+    go n d l true f = magnitude-one n d (omega arith) l (ltb-true d (2 * n) f)
+    go n d l false f = magnitude-zero n d (omega arith) l (ltb-false d (2 * n) f)
+
 -- THE LAW: outside the interval the pattern is the original's
 pub elsewhere : (bits : ℕ) → faint (ofBits binary32 bits) ≡ false → halfOf bits ≡ originalHalf bits
 unfolding halfOf originalHalf
-elsewhere bits = go (bits / 0x80000000 * 0x8000) (ofBits binary32 bits)
+elsewhere bits = go (bits / 0x80000000 * 0x8000) (ofBits binary32 bits) (belowUnit (ofBits binary32 bits)) refl
   where
-    fraction : (z n d : ℕ) → 0 < d → (a b : Bool) → ltb n d ≡ a → ltb d (2 * n) ≡ b → (a && b) ≡ false → z + magnitudeCode n d ≡ pick a z (z + magnitudeCode n d)
-    fraction z n d D true false e f h = ap (λ (x : ℕ). z + x) (magnitude-zero n d D (ltb-true n d e) (ltb-false d (2 * n) f)) ∙ add-zero z
-    fraction z n d D true true e f h = absurd (subst T h tt)
-    fraction z n d D false b e f h = refl
-
-    go : (z : ℕ) (x : Float) → faint x ≡ false → z + codeOf x ≡ pick (belowUnit x) z (z + codeOf x)
-    go z nan h = refl
-    go z (inf s) h = refl
-    go z (fin s m e) h = let n = m * up e * 2 ^ 24 in fraction z n (down e) (down-pos e) (ltb n (down e)) (ltb (down e) (2 * n)) refl refl h
+    go : (z : ℕ) (x : Float) (a : Bool) → belowUnit x ≡ a → (a && aboveHalf x) ≡ false → z + codeOf x ≡ pick a z (z + codeOf x)
+    go z x true e h = ap (λ (y : ℕ). z + y) (below-code x e ∙ ap (λ (b : Bool). pick b 1 0) h) ∙ add-zero z
+    go z x false e h = refl
 
 -- and inside it is the smallest subnormal with the sign, where the original has the zero
 pub inside : (bits : ℕ) → faint (ofBits binary32 bits) ≡ true → (halfOf bits ≡ bits / 0x80000000 * 0x8000 + 1) × (originalHalf bits ≡ bits / 0x80000000 * 0x8000)
 unfolding halfOf originalHalf
-inside bits = go (bits / 0x80000000 * 0x8000) (ofBits binary32 bits)
-  where
-    fraction : (z n d : ℕ) → 0 < d → (a b : Bool) → ltb n d ≡ a → ltb d (2 * n) ≡ b → (a && b) ≡ true → (z + magnitudeCode n d ≡ z + 1) × (pick a z (z + magnitudeCode n d) ≡ z)
-    fraction z n d D true true e f h = (ap (λ (x : ℕ). z + x) (magnitude-one n d D (ltb-true n d e) (ltb-true d (2 * n) f)), refl)
-    fraction z n d D true false e f h = absurd (subst T (sym h) tt)
-    fraction z n d D false b e f h = absurd (subst T (sym h) tt)
-
-    go : (z : ℕ) (x : Float) → faint x ≡ true → (z + codeOf x ≡ z + 1) × (pick (belowUnit x) z (z + codeOf x) ≡ z)
-    go z nan h = absurd (subst T (sym h) tt)
-    go z (inf s) h = absurd (subst T (sym h) tt)
-    go z (fin s m e) h = let n = m * up e * 2 ^ 24 in fraction z n (down e) (down-pos e) (ltb n (down e)) (ltb (down e) (2 * n)) refl refl h
+inside bits h =
+    let x = ofBits binary32 bits in
+    let z = bits / 0x80000000 * 0x8000 in
+    let e = and-left (belowUnit x) (aboveHalf x) h in
+    (ap (λ (y : ℕ). z + y) (below-code x e ∙ ap (λ (b : Bool). pick b 1 0) (and-right (belowUnit x) (aboveHalf x) h)), ap (λ (a : Bool). pick a z (z + codeOf x)) e)
