@@ -185,8 +185,9 @@ by_compiler=(-L "native=$build" -l dylib=float16 -C "link-arg=-Wl,-rpath,$build"
 if asked record compare fuzz && ! made "$float16" "$here/float16.c"; then
     echo 'oracle: building libfloat16.so'
     cc -std=c11 -O2 -Wall -Wextra -Werror -fPIC -shared "$here/float16.c" -o "$build/unfinished/libfloat16.so" ||
-        fail 'no C compiler, cc, that has _Float16'
-    if nm -D -u "$build/unfinished/libfloat16.so" | grep __trunc; then fail 'libfloat16.so has no conversion of its own'; fi
+        fail 'cc did not build float16.c, which needs a compiler that has _Float16'
+    undefined=$(nm -D -u "$build/unfinished/libfloat16.so") || fail 'nm did not read libfloat16.so'
+    if [[ $undefined == *__trunc* ]]; then fail 'libfloat16.so has no conversion of its own'; fi
     mv -f "$build/unfinished/libfloat16.so" "$float16"
 fi
 program record "${recorded[@]}" "$float16" -- "${by_compiler[@]}"

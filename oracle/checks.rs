@@ -1,7 +1,8 @@
 //! One check for each call of the port: the reply against the documents (paper.rs); acceptance and
 //! every accepted byte against the original, or stills.rs for the pairs that document 02 adds
-//! (answers.rs), and every binary16 code against the C compiler's; that a refusal leaves every
-//! lent byte, that what is only read stays, and that nothing beside a lent buffer is written.
+//! (answers.rs), and the binary16 code of every number, not of a NaN, against the C compiler's; that
+//! a refusal leaves every lent byte, that what is only read stays, and that nothing beside a lent
+//! buffer is written.
 //!
 //! The original is not asked where its 32-bit coordinates or 64-bit offsets would wrap, of plane
 //! layouts with refusal 10 (docs/DIFFERENCES.md), and where it would not end soon.

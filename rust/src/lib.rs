@@ -12,7 +12,7 @@
 //! [`PackedDepth`](depth_texture::PackedDepth) (`bytes_per_pixel` and the others).
 //!
 //! Modules, names, arguments and replies are those of the original, but that six more sources
-//! [convert](pixel_convert), and that the faintest numbers are no zeros
+//! [convert](pixel_convert), and that numbers above 2^-25 and below 2^-24 are no zeros
 //! [in binary16](convert::f32_to_f16_bits). Its callers compile as they are but for two things:
 //! `can_convert`, `can_convert_update` and `planar_yuv_layout` are no `const fn`, and some `pub` items
 //! are left out (`PackedDepth::decode` and `encode`, and what has to do with Metal); README.md of the

@@ -89,7 +89,7 @@ fn is_planar_pair(src_format: u32, dst_format: u32) -> bool
     false
 }
 
-// Whether `convert_region` converts this source format into this destination format.
+// Whether a conversion takes this source format into this destination format.
 pub fn can_convert(src_format: u32, dst_format: u32) -> bool
     ensures { λ r. ⌜ r ≡ canConvert «src_format» «dst_format» ⌝ }
 {

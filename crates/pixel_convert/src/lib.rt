@@ -4,7 +4,7 @@
 // Ported from pixel_convert.rs of athei/mtld3d (an altered version, see NOTICE).
 ghost use mathlib.Core.Path.{_≡_};
 ghost use mathlib.Core.Bool.{true, false};
-ghost use Prim.Native.Nat.{ℕ, _+_, _≤_, _<_, _%_, _/_, min};
+ghost use Prim.Native.Nat.{ℕ, _≤_, _<_, _%_, _/_, min};
 ghost use lib.Dec.{eqb};
 ghost use lib.ListN.{length, take};
 ghost use Rattle.formats.specs.Table.{bytesOf};

@@ -2,7 +2,7 @@
 // how many cases there are and how many of them differ. `vectors` has records of four little-endian 32-bit words (call, a, b,
 // answer) for the arithmetic of one channel; the other two have records for every public call, which src/values.rt and
 // src/buffers.rt describe. oracle/record.rs recorded all three, from the original Rust; for pairs of formats that it does not
-// convert, from the exact fractions of oracle/stills.rs; and for the faintest binary16 numbers, from oracle/float16.c.
+// convert, from the exact fractions of oracle/stills.rs; and for binary16 between 2^-25 and 2^-24, from oracle/float16.c.
 // oracle/README.md lists the calls.
 mod buffers;
 mod values;

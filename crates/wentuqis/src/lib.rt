@@ -17,7 +17,6 @@ ghost use Rattle.convert.specs.Fill as fills;
 ghost use Rattle.convert.specs.Fill.{fillOf};
 ghost use Rattle.splat.specs.Splat.{Splat};
 ghost use Rattle.depth_texture.specs.Layouts.{layout, layoutRefusal, layoutFor, answerNumber, answerLayout, Stands, Pitches};
-ghost use Rattle.depth_texture.specs.Replies as depths;
 ghost use Rattle.depth_texture.specs.Replies.{refusalOf};
 ghost use Rattle.depth_texture.specs.Planes.{unpackedDepth, unpackedStencil, packedBuffer};
 ghost use Rattle.depth_pixels.specs.Pixels.{KeepsAll};
