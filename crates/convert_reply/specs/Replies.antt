@@ -29,12 +29,15 @@ badPlanarShape f r =
     isPlanarYuv f
     && (not (eqb (r .depth) 1) || eqb (r .«src_pitch») 0 || not (eqb (r .«src_slice_pitch» % r .«src_pitch») 0))
 
+-- a region with no texel
 unfoldable pub isEmpty : ConvertRegion → Bool
 isEmpty r = eqb (r .width) 0 || eqb (r .height) 0 || eqb (r .depth) 0
 
+-- every source texel of the region lies inside a source of len bytes
 unfoldable pub sourceInside : (len f : ℕ) → ConvertRegion → Bool
 sourceInside len f r = insideAll len f (r .«src_pitch») (r .«src_slice_pitch») (r .«src_x») (r .«src_y») (r .width) (r .height) (r .depth)
 
+-- every destination texel of the region lies inside a destination of len bytes
 unfoldable pub destinationInside : (len f : ℕ) → ConvertRegion → Bool
 destinationInside len f r = insideAll len f (r .«dst_pitch») (r .«dst_slice_pitch») (r .«dst_x») (r .«dst_y») (r .width) (r .height) (r .depth)
 

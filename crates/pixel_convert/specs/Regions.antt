@@ -84,9 +84,11 @@ sourceValues src s r z row col = exactAt src s (r .«src_pitch») (r .«src_slic
 unfoldable pub written : (src : List ℕ) (s d : ℕ) → ConvertRegion → (z row col : ℕ) → List ℕ → List ℕ
 written src s d r z row col dst = sets dst (toAt d r z row col) (encodedBytes d (sourceTexel src s r z row col))
 
+-- a row written, column by column
 unfoldable pub rowWritten : (src : List ℕ) (s d : ℕ) → ConvertRegion → (z row : ℕ) → List ℕ → List ℕ
 rowWritten src s d r z row = iterate (written src s d r z row) (r .width)
 
+-- a slice written, row by row
 unfoldable pub sliceWritten : (src : List ℕ) (s d : ℕ) → ConvertRegion → (z : ℕ) → List ℕ → List ℕ
 sliceWritten src s d r z = iterate (rowWritten src s d r z) (r .height)
 

@@ -34,7 +34,7 @@ cast-result : tie.Need-cast-result
 cast-result c = search needs
 
 returns : tie.Need-returns
-returns c = answer (c .before .before .args .bits) 0x7e00 _ (nan-code _ (c .if2 .taken)) refl
+returns c = answer (c .before .before .args .bits) 0x7e00 _ (nan-code (c .before .before .args .bits) (omega (arith, c .if2 .taken))) refl
 
 add-result-2 : tie.Need-add-result-2
 add-result-2 c = search needs
@@ -43,7 +43,7 @@ cast-result-2 : tie.Need-cast-result-2
 cast-result-2 c = search needs
 
 returns-2 : tie.Need-returns-2
-returns-2 c = answer (c .before .before .args .bits) 0x7c00 _ (overflow-code _ (c .before .if1 .taken) (c .if2 .left)) refl
+returns-2 c = answer (c .before .before .args .bits) 0x7c00 _ (overflow-code (c .before .before .args .bits) (omega (arith, c .before .if1 .taken)) (omega (arith, c .if2 .left))) refl
 
 add-result-3 : tie.Need-add-result-3
 add-result-3 c = search needs
@@ -52,19 +52,19 @@ cast-result-3 : tie.Need-cast-result-3
 cast-result-3 c = search needs
 
 returns-3 : tie.Need-returns-3
-returns-3 c = answer (c .before .before .before .args .bits) 1 _ (unit-code _ (c .if4 .taken) (c .before .if3 .taken)) refl
+returns-3 c = answer (c .before .before .before .args .bits) 1 _ (unit-code (c .before .before .before .args .bits) (omega (arith, c .if4 .taken)) (omega (arith, c .before .if3 .taken))) refl
 
 cast-result-4 : tie.Need-cast-result-4
 cast-result-4 c = search needs
 
 returns-4 : tie.Need-returns-4
-returns-4 c = answer (c .before .before .before .args .bits) 0 _ (zero-code _ (c .if4 .left)) (sym (add-zero _))
+returns-4 c = answer (c .before .before .before .args .bits) 0 _ (zero-code (c .before .before .before .args .bits) (omega (arith, c .if4 .left))) (sym (add-zero _))
 
 nearest-f16-requires : tie.Need-nearest-f16-requires
 nearest-f16-requires c κs = search needs
 
 found : (c : tie.After-nearest-f16) → codeOf (ofBits binary32 (c .before .before .before .args .bits)) ≡ c .nearest-f16 .result
-found c = signless (c .before .before .before .args .bits) (c .before .before .if1 .left) ∙ sym (c .nearest-f16 .ensures)
+found c = signless (c .before .before .before .args .bits) (omega (arith, c .before .before .if1 .left)) ∙ sym (c .nearest-f16 .ensures)
 
 add-result-4 : tie.Need-add-result-4
 add-result-4 c = omega (arith, found c, code-small (ofBits binary32 (c .before .before .before .args .bits)))
