@@ -17,7 +17,7 @@ help:
 	@echo 'make fuzz      damaged calls under valgrind for ten minutes (SECONDS_OF_FUZZ=N: for N seconds)'
 	@echo 'make library   prove and build target/staticlib/libwentuqis.a'
 	@echo 'make fmt       lay out every file of Rattle (rt fmt)'
-	@echo 'make vectors   record the answers of the original, oracle/stills.rs and float16.c anew in crates/replay/data'
+	@echo 'make vectors   record the answers of the original, oracle/stills.rs, sets.rs and float16.c anew in crates/replay/data'
 	@echo 'make clean     remove all that these targets make'
 
 # A line for each crate as it is proved; all that the prover says is in out/library.log.
@@ -52,7 +52,7 @@ fmt:
 vectors:
 	@bash oracle/build.sh record
 	@mkdir -p crates/replay/data oracle/build/recorded && oracle/build/record oracle/build/recorded
-	@mv -f oracle/build/recorded/{vectors,values,buffers} crates/replay/data/
+	@mv -f oracle/build/recorded/{vectors,values,buffers,sets} crates/replay/data/
 
 clean:
 	rm -rf target oracle/build out

@@ -9,12 +9,14 @@ use lib.Dec.{eqb}
 use borrow.Author.Tests.{eqb-true, eq-eqb}
 use Rattle.words.specs.Tests.{pick}
 use Rattle.formats.specs.Codes.{A8R8G8B8}
-use Rattle.formats.specs.Classes.{isConvertibleRgb, isPackedYuv, isPlanarYuv, isArgbSource, isLaneSource}
+use Rattle.formats.specs.Classes.{isConvertibleRgb, isPackedYuv, isPlanarYuv, isYuv, isArgbSource, isLaneSource}
+use Rattle.yuv_sets.specs.declared.YuvSet.{YuvSet}
+use Rattle.yuv_sets.specs.Sets.{isLegal}
 use Rattle.convert_reply.specs.declared.ConvertRegion.{ConvertRegion}
 use Rattle.convert_reply.specs.declared.ConvertReply.{ConvertReply}
-use Rattle.convert_reply.specs.declared.ConvertReply.the-variants.{Accepted, Unsupported, PlanarShape, SourceOutside, DestinationOutside}
+use Rattle.convert_reply.specs.declared.ConvertReply.the-variants.{Accepted, Unsupported, PlanarShape, SourceOutside, DestinationOutside, IllegalSet}
 use Rattle.places.specs.Places.{isPicture}
-use Rattle.convert_reply.specs.Replies.{canConvert, canConvertUpdate, badPlanarShape, isEmpty, sourceInside, destinationInside, replyTo, replyNumber, ifAccepted}
+use Rattle.convert_reply.specs.Replies.{canConvert, canConvertUpdate, badPlanarShape, illegalSet, isEmpty, sourceInside, destinationInside, replyTo, replyNumber, ifAccepted}
 
 -- ---- the destination of a pair that converts is one
 pub convert-rgb : (s d : ℕ) → canConvert s d ≡ true → isConvertibleRgb d ≡ true
@@ -48,27 +50,73 @@ unfolding isPicture isLaneSource
 rgb-picture d h = rw h refl
 
 -- ---- what an accepted region that has a texel passed
-pub record Passed (s d : ℕ) (r : ConvertRegion) (n m : ℕ) : Type 0 where
+pub record Passed (numbers : YuvSet) (s d : ℕ) (r : ConvertRegion) (n m : ℕ) : Type 0 where
   pub pair : canConvert s d ≡ true
   pub shape : badPlanarShape s r ≡ false
+  pub set : illegalSet s numbers ≡ false
   pub source : sourceInside n s r ≡ true
   pub destination : destinationInside m d r ≡ true
 
-pub passed : (s d : ℕ) (r : ConvertRegion) (n m : ℕ) → isEmpty r ≡ false → replyTo s d r n m ≡ Accepted → Passed s d r n m
+pub passed : (numbers : YuvSet) (s d : ℕ) (r : ConvertRegion) (n m : ℕ) → isEmpty r ≡ false → replyTo numbers s d r n m ≡ Accepted → Passed numbers s d r n m
 unfolding replyTo
-passed s d r n m ne h = go (canConvert s d) (badPlanarShape s r) (isEmpty r) (sourceInside n s r) (destinationInside m d r) refl refl ne refl refl h
+passed numbers s d r n m ne h = go (canConvert s d) (badPlanarShape s r) (illegalSet s numbers) (isEmpty r) (sourceInside n s r) (destinationInside m d r) refl refl refl ne refl refl h
   where
-    clash : (a b : ℕ) → a ≡ b → a < b → Passed s d r n m
+    clash : (a b : ℕ) → a ≡ b → a < b → Passed numbers s d r n m
     clash a b e l = absurd (omega arith)
 
-    go : (c p e si di : Bool) → canConvert s d ≡ c → badPlanarShape s r ≡ p → e ≡ false → sourceInside n s r ≡ si → destinationInside m d r ≡ di
-        → pick (not c) Unsupported (pick p PlanarShape (pick e Accepted (pick (not si) SourceOutside (pick (not di) DestinationOutside Accepted)))) ≡ Accepted → Passed s d r n m
-    go true false false true true a b f g i k = record { pair = a; shape = b; source = g; destination = i }
-    go true false false true false a b f g i k = let x : _≡_ {A = ℕ} 0 1 = cc in clash 0 1 x (omega arith)
-    go true false false false di a b f g i k = let x : _≡_ {A = ℕ} 0 1 = cc in clash 0 1 x (omega arith)
-    go true false true si di a b f g i k = absurd (false≢true (sym f))
-    go true true e si di a b f g i k = let x : _≡_ {A = ℕ} 0 1 = cc in clash 0 1 x (omega arith)
-    go false p e si di a b f g i k = let x : _≡_ {A = ℕ} 0 1 = cc in clash 0 1 x (omega arith)
+    go : (c p w e si di : Bool) → canConvert s d ≡ c → badPlanarShape s r ≡ p → illegalSet s numbers ≡ w → e ≡ false → sourceInside n s r ≡ si → destinationInside m d r ≡ di
+        → pick (not c) Unsupported (pick p PlanarShape (pick w IllegalSet (pick e Accepted (pick (not si) SourceOutside (pick (not di) DestinationOutside Accepted))))) ≡ Accepted → Passed numbers s d r n m
+    go true false false false true true a b v f g i k = record { pair = a; shape = b; set = v; source = g; destination = i }
+    go true false false false true false a b v f g i k = let x : _≡_ {A = ℕ} 0 1 = cc in clash 0 1 x (omega arith)
+    go true false false false false di a b v f g i k = let x : _≡_ {A = ℕ} 0 1 = cc in clash 0 1 x (omega arith)
+    go true false false true si di a b v f g i k = absurd (false≢true (sym f))
+    go true false true e si di a b v f g i k = let x : _≡_ {A = ℕ} 0 1 = cc in clash 0 1 x (omega arith)
+    go true true w e si di a b v f g i k = let x : _≡_ {A = ℕ} 0 1 = cc in clash 0 1 x (omega arith)
+    go false p w e si di a b v f g i k = let x : _≡_ {A = ℕ} 0 1 = cc in clash 0 1 x (omega arith)
+
+-- ---- where a set is not looked at, or legal
+pub legal-fits : (numbers : YuvSet) (s : ℕ) → isLegal numbers ≡ true → illegalSet s numbers ≡ false
+unfolding illegalSet
+legal-fits numbers s h = go (isYuv s) (isLegal numbers) h
+  where
+    go : (y l : Bool) → l ≡ true → (y && not l) ≡ false
+    go true true e = refl
+    go true false e = sym e
+    go false l e = refl
+
+pub other-fits : (numbers : YuvSet) (s : ℕ) → isYuv s ≡ false → illegalSet s numbers ≡ false
+unfolding illegalSet
+other-fits numbers s h = rw h refl
+
+-- the reply is document 01's, by its five checks
+pub as-before : (numbers : YuvSet) (s d : ℕ) (r : ConvertRegion) (n m : ℕ) → illegalSet s numbers ≡ false
+    → replyTo numbers s d r n m
+    ≡ pick (not (canConvert s d)) Unsupported (pick (badPlanarShape s r) PlanarShape (pick (isEmpty r) Accepted (pick (not (sourceInside n s r)) SourceOutside (pick (not (destinationInside m d r)) DestinationOutside Accepted))))
+unfolding replyTo
+as-before numbers s d r n m h = rw h refl
+
+-- ---- a YUV source that is accepted comes with a legal set
+pub legal-of : (numbers : YuvSet) (s : ℕ) → isYuv s ≡ true → illegalSet s numbers ≡ false → isLegal numbers ≡ true
+unfolding illegalSet
+legal-of numbers s y h = go (isYuv s) (isLegal numbers) y h
+  where
+    go : (a l : Bool) → a ≡ true → (a && not l) ≡ false → l ≡ true
+    go true true e k = refl
+    go true false e k = sym k
+    go false l e k = absurd (false≢true e)
+
+-- a source of a pair that converts and has no lanes is YUV
+pub convert-yuv : (s d : ℕ) → canConvert s d ≡ true → isLaneSource s ≡ false → isYuv s ≡ true
+unfolding canConvert canConvertUpdate isLaneSource
+convert-yuv s d h n = go (isConvertibleRgb s) (isPackedYuv s) (isConvertibleRgb d) (eqb d A8R8G8B8) (isArgbSource s) (isPlanarYuv s) h n
+  where
+    go : (a k b e w p : Bool) → (((a || k) && b) || (e && w) || (p && b)) ≡ true → (a || w) ≡ false → (k || p) ≡ true
+    go true k b e w p h n = absurd (false≢true (sym n))
+    go false k b e true p h n = absurd (false≢true (sym n))
+    go false true b e false p h n = refl
+    go false false b e false true h n = refl
+    go false false b true false false h n = h
+    go false false b false false false h n = h
 
 -- ---- a region that is not empty has a column, a row and a slice
 pub sizes : (r : ConvertRegion) → isEmpty r ≡ false → (0 < r .width) × (0 < r .height) × (0 < r .depth)
@@ -91,6 +139,7 @@ is-accepted Unsupported h = absurd (false≢true h)
 is-accepted PlanarShape h = absurd (false≢true h)
 is-accepted SourceOutside h = absurd (false≢true h)
 is-accepted DestinationOutside h = absurd (false≢true h)
+is-accepted IllegalSet h = absurd (false≢true h)
 
 pub is-refused : (a : ConvertReply) (x y : List ℕ) → eqb (replyNumber a) 0 ≡ false → ifAccepted a x y ≡ y
 is-refused Accepted x y h = absurd (false≢true (sym h))
@@ -98,3 +147,4 @@ is-refused Unsupported x y h = refl
 is-refused PlanarShape x y h = refl
 is-refused SourceOutside x y h = refl
 is-refused DestinationOutside x y h = refl
+is-refused IllegalSet x y h = refl

@@ -7,10 +7,12 @@ use lib.Dec.{eqb}
 use lib.ListN.{length}
 use Rattle.words.specs.Tests.{pick}
 use Rattle.formats.specs.Codes.{A8R8G8B8}
-use Rattle.formats.specs.Classes.{isConvertibleRgb, isPackedYuv, isPlanarYuv, isArgbSource}
+use Rattle.formats.specs.Classes.{isConvertibleRgb, isPackedYuv, isPlanarYuv, isYuv, isArgbSource}
+use Rattle.yuv_sets.specs.declared.YuvSet.{YuvSet}
+use Rattle.yuv_sets.specs.Sets.{isLegal, bt601}
 use Rattle.convert_reply.specs.declared.ConvertRegion.{ConvertRegion}
 use Rattle.convert_reply.specs.declared.ConvertReply.{ConvertReply}
-use Rattle.convert_reply.specs.declared.ConvertReply.the-variants.{Accepted, Unsupported, PlanarShape, SourceOutside, DestinationOutside}
+use Rattle.convert_reply.specs.declared.ConvertReply.the-variants.{Accepted, Unsupported, PlanarShape, SourceOutside, DestinationOutside, IllegalSet}
 use Rattle.places.specs.Places.{insideAll}
 
 -- ---- which pairs of formats convert
@@ -28,6 +30,10 @@ unfoldable pub badPlanarShape : (f : ℕ) → ConvertRegion → Bool
 badPlanarShape f r =
     isPlanarYuv f
     && (not (eqb (r .depth) 1) || eqb (r .«src_pitch») 0 || not (eqb (r .«src_slice_pitch» % r .«src_pitch») 0))
+
+-- a YUV source with a set of numbers that is not legal; of any other source the set is not looked at
+unfoldable pub illegalSet : (f : ℕ) → YuvSet → Bool
+illegalSet f numbers = isYuv f && not (isLegal numbers)
 
 -- a region with no texel
 unfoldable pub isEmpty : ConvertRegion → Bool
@@ -52,11 +58,12 @@ firstMet [] otherwise = otherwise
 firstMet (c ∷ cs) otherwise = pick (c .met) (c .reply) (firstMet cs otherwise)
 
 -- the checks, in order; an empty region is accepted
-unfoldable pub replyTo : (source destination : ℕ) → ConvertRegion → (source-length destination-length : ℕ) → ConvertReply
-replyTo s d r n m =
+unfoldable pub replyTo : YuvSet → (source destination : ℕ) → ConvertRegion → (source-length destination-length : ℕ) → ConvertReply
+replyTo numbers s d r n m =
     firstMet
     (record { met = not (canConvert s d); reply = Unsupported }
     ∷ record { met = badPlanarShape s r; reply = PlanarShape }
+    ∷ record { met = illegalSet s numbers; reply = IllegalSet }
     ∷ record { met = isEmpty r; reply = Accepted }
     ∷ record { met = not (sourceInside n s r); reply = SourceOutside }
     ∷ record { met = not (destinationInside m d r); reply = DestinationOutside }
@@ -64,16 +71,21 @@ replyTo s d r n m =
     Accepted
 
 -- the reply to two buffers
-abbrev pub convertReply : (src dst : List ℕ) (source destination : ℕ) → ConvertRegion → ConvertReply
-convertReply src dst s d r = replyTo s d r (length src) (length dst)
+abbrev pub replyWith : YuvSet → (src dst : List ℕ) (source destination : ℕ) → ConvertRegion → ConvertReply
+replyWith numbers src dst s d r = replyTo numbers s d r (length src) (length dst)
 
--- document 01's number of a reply
+-- the reply by document 01's numbers
+abbrev pub convertReply : (src dst : List ℕ) (source destination : ℕ) → ConvertRegion → ConvertReply
+convertReply src dst s d r = replyWith bt601 src dst s d r
+
+-- the number of a reply, in document 01 and for a set in document 02
 abbrev pub replyNumber : ConvertReply → ℕ
 replyNumber Accepted = 0
 replyNumber Unsupported = 1
 replyNumber PlanarShape = 2
 replyNumber SourceOutside = 3
 replyNumber DestinationOutside = 4
+replyNumber IllegalSet = 15
 
 -- the first of two where the reply is no refusal, and else the second
 abbrev pub ifAccepted {ℓ} : {A : Type ℓ} → ConvertReply → A → A → A
@@ -82,3 +94,4 @@ ifAccepted Unsupported a b = b
 ifAccepted PlanarShape a b = b
 ifAccepted SourceOutside a b = b
 ifAccepted DestinationOutside a b = b
+ifAccepted IllegalSet a b = b

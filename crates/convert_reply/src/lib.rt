@@ -1,15 +1,16 @@
 // The reply to a conversion, decided before any byte is written: which pairs of formats convert, and which regions are refused. Refused
-// are a pair that does not convert, a planar source that is no single slice of whole rows, and a region with a texel outside the
-// source or the destination. specs/Replies has the checks in their order; where texels lie is in the crate `places`.
+// are a pair that does not convert, a planar source that is no single slice of whole rows, a YUV source with a set of numbers that is
+// not legal, and a region with a texel outside the source or the destination. specs/Replies has the checks in their order; where texels lie is in the crate `places`.
 // Ported from pixel_convert.rs of athei/mtld3d (an altered version, see NOTICE).
 ghost use mathlib.Core.Path.{_≡_};
 ghost use mathlib.Core.Bool.{true, false, _&&_};
 ghost use lib.Dec.{eqb};
 ghost use Rattle.formats.specs.Codes.{A8R8G8B8};
-ghost use Rattle.formats.specs.Classes.{isConvertibleRgb, isPlanarYuv, isArgbSource};
+ghost use Rattle.formats.specs.Classes.{isConvertibleRgb, isPlanarYuv, isYuv, isArgbSource};
 ghost use Rattle.places.specs.Places.{isPicture};
-ghost use Rattle.convert_reply.specs.Replies.{canConvertUpdate, canConvert, badPlanarShape, isEmpty, sourceInside, destinationInside, replyTo, replyNumber};
+ghost use Rattle.convert_reply.specs.Replies.{canConvertUpdate, canConvert, badPlanarShape, illegalSet, isEmpty, sourceInside, destinationInside, replyTo, replyNumber};
 use formats::D3DFMT_A8R8G8B8;
+use yuv_sets::YuvSet;
 
 // One conversion: the shared extent and both origins in texels, both layouts in bytes. `depth` counts the slices, which lie a
 // slice pitch apart.
@@ -27,17 +28,18 @@ pub struct ConvertRegion {
     pub depth: usize,
 }
 
-// What a conversion answers; `replyNumber` of specs/ has document 01's numbers, 0 to 4 in this order.
+// What a conversion answers; `replyNumber` of specs/ has the numbers: 0 to 4 in this order, and 15.
 pub enum ConvertReply {
     Accepted,
     Unsupported,
     PlanarShape,
     SourceOutside,
     DestinationOutside,
+    IllegalSet,
 }
 
 impl ConvertReply {
-    // Document 01's number of the reply.
+    // The number of the reply.
     pub fn number(self) -> u32
         ensures { λ r. ⌜ r ≡ replyNumber self ⌝ }
     {
@@ -47,6 +49,7 @@ impl ConvertReply {
             ConvertReply::PlanarShape => 2,
             ConvertReply::SourceOutside => 3,
             ConvertReply::DestinationOutside => 4,
+            ConvertReply::IllegalSet => 15,
         }
     }
 
@@ -118,6 +121,25 @@ fn bad_planar_shape(src_format: u32, region: ConvertRegion) -> bool
     region.src_slice_pitch % region.src_pitch != 0
 }
 
+fn is_yuv(d3d_format: u32) -> bool
+    ensures { λ r. ⌜ r ≡ isYuv «d3d_format» ⌝ }
+{
+    if formats::is_packed_yuv(d3d_format) {
+        return true;
+    }
+    formats::is_planar_yuv(d3d_format)
+}
+
+// Whether a YUV source comes with a set that is not legal.
+fn illegal_set(src_format: u32, numbers: YuvSet) -> bool
+    ensures { λ r. ⌜ r ≡ illegalSet «src_format» numbers ⌝ }
+{
+    if !is_yuv(src_format) {
+        return false;
+    }
+    !yuv_sets::is_legal(numbers)
+}
+
 // Whether every source texel of a region that is not empty lies within len bytes.
 fn source_inside(len: usize, src_format: u32, region: ConvertRegion) -> bool
     requires { ⌜ (isPicture «src_format» ≡ true) × (isEmpty region ≡ false) ⌝ }
@@ -167,21 +189,25 @@ pub fn is_empty(region: ConvertRegion) -> bool
     region.depth == 0
 }
 
-// The reply to a conversion, from the lengths of its buffers: the checks of document 01 in their order.
+// The reply to a conversion by a set of numbers, from the lengths of its buffers: the checks in their order.
 pub fn check(
     src_len: usize,
     src_format: u32,
     dst_len: usize,
     dst_format: u32,
     region: ConvertRegion,
+    numbers: YuvSet,
 ) -> ConvertReply
-    ensures { λ r. ⌜ r ≡ replyTo «src_format» «dst_format» region «src_len» «dst_len» ⌝ }
+    ensures { λ r. ⌜ r ≡ replyTo numbers «src_format» «dst_format» region «src_len» «dst_len» ⌝ }
 {
     if !can_convert(src_format, dst_format) {
         return ConvertReply::Unsupported;
     }
     if bad_planar_shape(src_format, region) {
         return ConvertReply::PlanarShape;
+    }
+    if illegal_set(src_format, numbers) {
+        return ConvertReply::IllegalSet;
     }
     if is_empty(region) {
         return ConvertReply::Accepted;

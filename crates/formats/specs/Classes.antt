@@ -27,6 +27,10 @@ isPackedYuv f = listed f (YUY2 ∷ UYVY ∷ [])
 unfoldable pub isPlanarYuv : ℕ → Bool
 isPlanarYuv f = listed f (NV12 ∷ YV12 ∷ [])
 
+-- the YUV formats
+abbrev pub isYuv : ℕ → Bool
+isYuv f = isPackedYuv f || isPlanarYuv f
+
 -- the sources of A8R8G8B8 alone whose channels are whole numbers: of 16 bits, of ten and two, and of eight with a sign
 abbrev pub codeSources : List ℕ
 codeSources = A16B16G16R16 ∷ A2R10G10B10 ∷ A2B10G10R10 ∷ G16R16 ∷ L16 ∷ V8U8 ∷ Q8W8V8U8 ∷ []

@@ -1,118 +1,21 @@
-// Conversion of a region of texels from one format into another: the RGB formats into each other, packed and planar YUV into RGB,
-// and wide, ten-bit, 16-bit and signed formats into A8R8G8B8. specs/Regions has the bytes and what is promised of them; the reply is in
-// the crate `convert_reply`, what texels decode and encode to in `texels`, how they go by blocks in `blocks`, where they lie in `places`.
-// Ported from pixel_convert.rs of athei/mtld3d (an altered version, see NOTICE).
+// Conversion of a region of texels from one format into another: the RGB formats into each other, packed and planar YUV into RGB by a
+// set of numbers, and wide, ten-bit, 16-bit and signed formats into A8R8G8B8. What the bytes are and what is promised of them is in the
+// crate `regions`, the reply in `convert_reply`, what texels decode and encode to in `texels`, how they go by blocks in `blocks`, where
+// they lie in `places`, rows of YUV in `yuv_rows`. Ported from pixel_convert.rs of athei/mtld3d (an altered version, see NOTICE).
 ghost use mathlib.Core.Path.{_≡_};
 ghost use mathlib.Core.Bool.{true, false};
-ghost use Prim.Native.Nat.{ℕ, _≤_, _<_, _%_, _/_, min};
-ghost use lib.Dec.{eqb};
-ghost use lib.ListN.{length, take};
+ghost use Prim.Native.Nat.{ℕ, _≤_, _<_, min};
+ghost use lib.ListN.{length};
 ghost use Rattle.formats.specs.Table.{bytesOf};
-ghost use Rattle.formats.specs.Classes.{isPackedYuv, isPlanarYuv, isCodeSource, isLaneSource};
-ghost use Rattle.planar_yuv.specs.Answers.{Legal};
-ghost use Rattle.places.specs.Places.{isPicture, layoutPlaces, placesAt, placesIn, bytesAt};
-ghost use Rattle.places.specs.Planar.{LayoutFor};
-ghost use Rattle.convert_reply.specs.Replies.{convertReply};
-ghost use Rattle.pixel_convert.specs.Regions.{opaqueOf, texelOf, texelAt, rowWritten, sliceWritten, regionWritten, convertedBytes, NearSource, OthersKept};
-ghost use Rattle.pixel_convert.specs.Rows.{RowFits};
+ghost use Rattle.formats.specs.Classes.{isLaneSource};
+ghost use Rattle.yuv_sets.specs.declared.YuvSet.{YuvSet};
+ghost use Rattle.convert_reply.specs.Replies.{illegalSet, replyWith, convertReply};
+ghost use Rattle.regions.specs.Regions.{rowWritten, sliceWritten, regionWritten, convertedWith, convertedBytes, NearWith, NearSource, OwnWith, OthersKept};
+ghost use Rattle.regions.specs.Rows.{RowFits};
 use convert_reply::ConvertRegion;
 use convert_reply::ConvertReply;
 use formats::D3DFMT_A8R8G8B8;
-use planar_yuv::PlanarYuvLayout;
-use stretch_rect::Rgb;
-use texels::Texel;
-
-// ---- one texel from source to destination
-
-fn opaque(p: Rgb) -> Texel
-    ensures { λ r. ⌜ r ≡ opaqueOf p ⌝ }
-{
-    Texel {
-        r: p.r,
-        g: p.g,
-        b: p.b,
-        a: 0xff,
-    }
-}
-
-fn fetch_planar(src: &[u8], d3d_format: u32, layout: PlanarYuvLayout, y: usize, x: usize) -> Texel
-    requires { ⌜ (isPlanarYuv «d3d_format» ≡ true) × (Legal layout) × (placesIn (length (now src)) (layoutPlaces «d3d_format» (layout .pitch) (layout .«luma_rows») y x) ≡ true) ⌝ }
-    ensures { λ r. ⌜ r ≡ texelOf «d3d_format» (eqb (x % 2) 1) (bytesAt (now (src .entry)) (layoutPlaces «d3d_format» (layout .pitch) (layout .«luma_rows») y x)) ⌝ }
-{
-    opaque(stretch_rect::decode_planar_yuv(d3d_format, src, layout, x, y))
-}
-
-// A texel of a macropixel, which is lent from its first byte on.
-fn fetch_packed(macropixel: &[u8], d3d_format: u32, x: usize) -> Texel
-    requires { ⌜ (isPackedYuv «d3d_format» ≡ true) × (4 ≤ length (now macropixel)) ⌝ }
-    ensures { λ r. ⌜ r ≡ texelOf «d3d_format» (eqb (x % 2) 1) (take 4 (now (macropixel .entry))) ⌝ }
-{
-    opaque(stretch_rect::decode_packed_yuv(d3d_format, macropixel, x % 2 == 1))
-}
-
-// The texel at slice z, row y and column x of YUV, RGB or binary32; `size` is its format's bytes and `layout` a planar source's.
-fn fetch(
-    src: &[u8],
-    d3d_format: u32,
-    size: usize,
-    layout: PlanarYuvLayout,
-    pitch: usize,
-    slice_pitch: usize,
-    z: usize,
-    y: usize,
-    x: usize,
-) -> Texel
-    requires { ⌜ (isPicture «d3d_format» ≡ true) × (size ≡ bytesOf «d3d_format») × (LayoutFor «d3d_format» pitch («slice_pitch» / pitch) layout) × (placesIn (length (now src)) (placesAt «d3d_format» pitch «slice_pitch» z y x) ≡ true) × (isCodeSource «d3d_format» ≡ false) ⌝ }
-    ensures { λ r. ⌜ r ≡ texelAt (now (src .entry)) «d3d_format» pitch «slice_pitch» z y x ⌝ }
-{
-    if formats::is_planar_yuv(d3d_format) {
-        return fetch_planar(src, d3d_format, layout, y, x);
-    }
-    if formats::is_packed_yuv(d3d_format) {
-        let at = z * slice_pitch + y * pitch + x / 2 * 4;
-        return fetch_packed(&src[at..], d3d_format, x);
-    }
-    let from = z * slice_pitch + y * pitch + x * size;
-    texels::decode_pixel(d3d_format, &src[from..])
-}
-
-// ---- a region
-
-// A row of YUV, texel by texel: the source's places are worked out afresh, and the destination's offset is carried. RGB and binary32
-// would do too, and no row of them comes here (docs/DECISIONS.md has why `fetch` keeps their arm).
-fn texel_row(
-    dst: &mut [u8],
-    dst_format: u32,
-    to_size: usize,
-    src: &[u8],
-    src_format: u32,
-    from_size: usize,
-    region: ConvertRegion,
-    z: usize,
-    row: usize,
-)
-    requires { ⌜ (RowFits (length (now src)) (length (now dst)) «src_format» «dst_format» region z row) × (isCodeSource «src_format» ≡ false) × («from_size» ≡ bytesOf «src_format») × («to_size» ≡ bytesOf «dst_format») ⌝ }
-    ensures { λ _. ⌜ now (dst .exit) ≡ rowWritten (now (src .entry)) «src_format» «dst_format» region z row (now (dst .entry)) ⌝ }
-{
-    let sx = region.src_x as usize;
-    let dx = region.dst_x as usize;
-    let sy = region.src_y as usize + row;
-    let dy = region.dst_y as usize + row;
-    let sp = region.src_pitch;
-    let dp = region.dst_pitch;
-    let ss = region.src_slice_pitch;
-    let ds = region.dst_slice_pitch;
-    let width = region.width as usize;
-    let layout = places::source_layout(src_format, sp, ss);
-    let mut to = z * ds + dy * dp + dx * to_size;
-    let mut col: usize = 0;
-    while col < width {
-        let t = fetch(src, src_format, from_size, layout, sp, ss, z, sy, sx + col);
-        texels::encode_rgb_pixel(dst_format, t, &mut dst[to..]);
-        to += to_size;
-        col += 1;
-    }
-}
+use yuv_sets::YuvSet;
 
 // How many texels of a row the next block takes: 64, or those that are left.
 fn next_block(left: usize) -> usize
@@ -136,7 +39,7 @@ fn block_row(
     row: usize,
 )
     requires { ⌜ (RowFits (length (now src)) (length (now dst)) «src_format» «dst_format» region z row) × (isLaneSource «src_format» ≡ true) × («from_size» ≡ bytesOf «src_format») × («to_size» ≡ bytesOf «dst_format») × (64 ≤ length (now block)) ⌝ }
-    ensures { λ _. ⌜ now (dst .exit) ≡ rowWritten (now (src .entry)) «src_format» «dst_format» region z row (now (dst .entry)) ⌝ }
+    ensures { λ _. ⌜ ((numbers : YuvSet) → now (dst .exit) ≡ rowWritten numbers (now (src .entry)) «src_format» «dst_format» region z row (now (dst .entry))) ⌝ }
 {
     let from_x = region.src_x as usize;
     let to_x = region.dst_x as usize;
@@ -164,7 +67,9 @@ fn block_row(
     }
 }
 
+// A row of any source; its own set of numbers is a YUV row's.
 fn convert_row(
+    numbers: YuvSet,
     block: &mut [u32],
     dst: &mut [u8],
     dst_format: u32,
@@ -176,8 +81,8 @@ fn convert_row(
     z: usize,
     row: usize,
 )
-    requires { ⌜ (RowFits (length (now src)) (length (now dst)) «src_format» «dst_format» region z row) × («from_size» ≡ bytesOf «src_format») × («to_size» ≡ bytesOf «dst_format») × (64 ≤ length (now block)) ⌝ }
-    ensures { λ _. ⌜ now (dst .exit) ≡ rowWritten (now (src .entry)) «src_format» «dst_format» region z row (now (dst .entry)) ⌝ }
+    requires { ⌜ (RowFits (length (now src)) (length (now dst)) «src_format» «dst_format» region z row) × («from_size» ≡ bytesOf «src_format») × («to_size» ≡ bytesOf «dst_format») × (64 ≤ length (now block)) × (illegalSet «src_format» numbers ≡ false) ⌝ }
+    ensures { λ _. ⌜ now (dst .exit) ≡ rowWritten numbers (now (src .entry)) «src_format» «dst_format» region z row (now (dst .entry)) ⌝ }
 {
     if formats::is_lane_source(src_format) {
         block_row(
@@ -194,7 +99,8 @@ fn convert_row(
         );
         return;
     }
-    texel_row(
+    yuv_rows::texel_row(
+        numbers,
         dst,
         dst_format,
         to_size,
@@ -208,6 +114,7 @@ fn convert_row(
 }
 
 fn convert_slice(
+    numbers: YuvSet,
     block: &mut [u32],
     dst: &mut [u8],
     dst_format: u32,
@@ -218,13 +125,14 @@ fn convert_slice(
     region: ConvertRegion,
     z: usize,
 )
-    requires { ⌜ ((row : ℕ) → row < region .height → RowFits (length (now src)) (length (now dst)) «src_format» «dst_format» region z row) × («from_size» ≡ bytesOf «src_format») × («to_size» ≡ bytesOf «dst_format») × (64 ≤ length (now block)) ⌝ }
-    ensures { λ _. ⌜ now (dst .exit) ≡ sliceWritten (now (src .entry)) «src_format» «dst_format» region z (now (dst .entry)) ⌝ }
+    requires { ⌜ ((row : ℕ) → row < region .height → RowFits (length (now src)) (length (now dst)) «src_format» «dst_format» region z row) × («from_size» ≡ bytesOf «src_format») × («to_size» ≡ bytesOf «dst_format») × (64 ≤ length (now block)) × (illegalSet «src_format» numbers ≡ false) ⌝ }
+    ensures { λ _. ⌜ now (dst .exit) ≡ sliceWritten numbers (now (src .entry)) «src_format» «dst_format» region z (now (dst .entry)) ⌝ }
 {
     let height = region.height as usize;
     let mut row: usize = 0;
     while row < height {
         convert_row(
+            numbers,
             block,
             dst,
             dst_format,
@@ -242,14 +150,15 @@ fn convert_slice(
 
 // Every slice. What does not change from row to row is made here: the block, and how many bytes a texel has.
 fn convert_slices(
+    numbers: YuvSet,
     dst: &mut [u8],
     dst_format: u32,
     src: &[u8],
     src_format: u32,
     region: ConvertRegion,
 )
-    requires { ⌜ ((z : ℕ) → z < region .depth → (row : ℕ) → row < region .height → RowFits (length (now src)) (length (now dst)) «src_format» «dst_format» region z row) ⌝ }
-    ensures { λ _. ⌜ now (dst .exit) ≡ regionWritten (now (src .entry)) «src_format» «dst_format» region (now (dst .entry)) ⌝ }
+    requires { ⌜ ((z : ℕ) → z < region .depth → (row : ℕ) → row < region .height → RowFits (length (now src)) (length (now dst)) «src_format» «dst_format» region z row) × (illegalSet «src_format» numbers ≡ false) ⌝ }
+    ensures { λ _. ⌜ now (dst .exit) ≡ regionWritten numbers (now (src .entry)) «src_format» «dst_format» region (now (dst .entry)) ⌝ }
 {
     let to_size = formats::bytes_per_texel(dst_format);
     let from_size = formats::bytes_per_texel(src_format);
@@ -258,6 +167,7 @@ fn convert_slices(
     let mut z: usize = 0;
     while z < depth {
         convert_slice(
+            numbers,
             &mut block[..],
             dst,
             dst_format,
@@ -272,8 +182,41 @@ fn convert_slices(
     }
 }
 
-// Converts a region of `src` into `dst`, by slice, row and column. The reply is decided before the first byte is
-// written; refused, `dst` is as it was.
+// Converts a region of `src` into `dst`, by slice, row and column; a YUV source by a set of numbers. The reply is decided before the
+// first byte is written; refused, `dst` is as it was.
+pub fn convert_region_with_set(
+    dst: &mut [u8],
+    dst_format: u32,
+    src: &[u8],
+    src_format: u32,
+    region: ConvertRegion,
+    numbers: YuvSet,
+) -> ConvertReply
+    ensures reply { λ r. ⌜ r ≡ replyWith numbers (now (src .entry)) (now (dst .entry)) «src_format» «dst_format» region ⌝ }
+    ensures bytes { λ _. ⌜ now (dst .exit) ≡ convertedWith numbers (now (src .entry)) (now (dst .entry)) «src_format» «dst_format» region ⌝ }
+    ensures near { λ _. ⌜ NearWith numbers (now (src .entry)) (now (dst .entry)) (now (dst .exit)) «src_format» «dst_format» region ⌝ }
+    ensures own { λ _. ⌜ OwnWith numbers (now (src .entry)) (now (dst .entry)) (now (dst .exit)) «src_format» «dst_format» region ⌝ }
+    ensures kept { λ _. ⌜ OthersKept (now (dst .entry)) (now (dst .exit)) «dst_format» region ⌝ }
+{
+    let reply = convert_reply::check(
+        src.len(),
+        src_format,
+        dst.len(),
+        dst_format,
+        region,
+        numbers,
+    );
+    if !reply.is_accepted() {
+        return reply;
+    }
+    if convert_reply::is_empty(region) {
+        return reply;
+    }
+    convert_slices(numbers, dst, dst_format, src, src_format, region);
+    reply
+}
+
+// The same by document 01's numbers.
 pub fn convert_region(
     dst: &mut [u8],
     dst_format: u32,
@@ -286,13 +229,5 @@ pub fn convert_region(
     ensures near { λ _. ⌜ NearSource (now (src .entry)) (now (dst .entry)) (now (dst .exit)) «src_format» «dst_format» region ⌝ }
     ensures kept { λ _. ⌜ OthersKept (now (dst .entry)) (now (dst .exit)) «dst_format» region ⌝ }
 {
-    let reply = convert_reply::check(src.len(), src_format, dst.len(), dst_format, region);
-    if !reply.is_accepted() {
-        return reply;
-    }
-    if convert_reply::is_empty(region) {
-        return reply;
-    }
-    convert_slices(dst, dst_format, src, src_format, region);
-    reply
+    convert_region_with_set(dst, dst_format, src, src_format, region, yuv_sets::bt601())
 }

@@ -1,4 +1,4 @@
-// Cases of the public calls that are lent buffers. A record of the file `buffers` has 512 bytes: the call's number and 1 for a
+// Cases of the public calls that are lent buffers. A record of the files `buffers` and `sets` has 512 bytes: the call's number and 1 for a
 // refusal (else 0), of 32 bits each; fifteen parameters of 64 bits, the lengths of the lent buffers first; three areas of 72
 // bytes that hold the buffers before the call, and two that hold what is written after it. An area is longer than what is lent
 // of it, and every byte of it is compared.
@@ -15,6 +15,7 @@ pub(crate) fn agrees(call: u32, case: &[u8]) -> bool
         26 => unpack(case),
         27 => pack(case),
         28 => splat_pixel_pattern(case),
+        30 => convert_region_with_set(case),
         _ => false,
     }
 }
@@ -113,6 +114,58 @@ fn convert_region(case: &[u8]) -> bool
     let src = area(&case[128..]);
     let mut dst = area(&case[200..]);
     let reply = convert_reply(case, &src, &mut dst);
+    (reply != 0) == refused(case) && same(&dst, &case[344..])
+}
+
+// A number of the set that a record of a conversion has in its third area.
+fn set_number(case: &[u8], place: usize) -> u32
+    requires { ⌜ 512 ≤ length (now case) ⌝ }
+    requires { ⌜ place < 7 ⌝ }
+{
+    words::le32(&case[272 + place * 4..])
+}
+
+// The reply to the conversion with the parameters and the set of a record.
+fn convert_reply_with_set(case: &[u8], src: &[u8], dst: &mut [u8]) -> u32
+    requires { ⌜ 512 ≤ length (now case) ⌝ }
+    requires { ⌜ 72 ≤ length (now src) ⌝ }
+    requires { ⌜ 72 ≤ length (now dst) ⌝ }
+{
+    let src_length = lent(case, 0);
+    let dst_length = lent(case, 1);
+    wentuqis::wentuqis_convert_region_with_set(
+        &mut dst[0..dst_length],
+        number(case, 2),
+        &src[0..src_length],
+        number(case, 3),
+        number(case, 4),
+        number(case, 5),
+        number(case, 6),
+        number(case, 7),
+        number(case, 8),
+        number(case, 9),
+        size(case, 10),
+        size(case, 11),
+        size(case, 12),
+        size(case, 13),
+        size(case, 14),
+        set_number(case, 0),
+        set_number(case, 1),
+        set_number(case, 2),
+        set_number(case, 3),
+        set_number(case, 4),
+        set_number(case, 5),
+        set_number(case, 6),
+    )
+}
+
+// Parameters as for convert_region. Areas: source, destination, the seven numbers of 32 bits; destination after.
+fn convert_region_with_set(case: &[u8]) -> bool
+    requires { ⌜ 512 ≤ length (now case) ⌝ }
+{
+    let src = area(&case[128..]);
+    let mut dst = area(&case[200..]);
+    let reply = convert_reply_with_set(case, &src, &mut dst);
     (reply != 0) == refused(case) && same(&dst, &case[344..])
 }
 

@@ -1,9 +1,9 @@
-// Replays recorded answers: reads the files `vectors`, `values` and `buffers`, computes each call anew, and prints for each call
+// Replays recorded answers: reads the files `vectors`, `values`, `buffers` and `sets`, computes each call anew, and prints for each call
 // how many cases there are and how many of them differ. `vectors` has records of four little-endian 32-bit words (call, a, b,
-// answer) for the arithmetic of one channel; the other two have records for every public call, which src/values.rt and
-// src/buffers.rt describe. oracle/record.rs recorded all three, from the original Rust; for pairs of formats that it does not
-// convert, from the exact fractions of oracle/stills.rs; and for binary16 between 2^-25 and 2^-24, from oracle/float16.c.
-// oracle/README.md lists the calls.
+// answer) for the arithmetic of one channel; the others have records for every public call, which src/values.rt and
+// src/buffers.rt describe. oracle/record.rs recorded all four, from the original Rust; for pairs of formats that it does not
+// convert, from the exact fractions of oracle/stills.rs; for sets of YUV numbers that it does not have, from the whole numbers of
+// oracle/sets.rs; and for binary16 between 2^-25 and 2^-24, from oracle/float16.c. oracle/README.md lists the calls.
 mod buffers;
 mod values;
 
@@ -224,6 +224,7 @@ fn print_public_counts(cases: [u64; 32], refused: [u64; 32], differ: [u64; 32]) 
     print_public(b"unpack                       ", 26, cases, refused, differ);
     print_public(b"pack                         ", 27, cases, refused, differ);
     print_public(b"splat_pixel_pattern          ", 28, cases, refused, differ);
+    print_public(b"convert_region_with_set      ", 30, cases, refused, differ);
 }
 
 fn main() {
@@ -233,6 +234,7 @@ fn main() {
     replay(b"vectors", 16, &mut cases, &mut refused, &mut differ);
     replay(b"values", 64, &mut cases, &mut refused, &mut differ);
     replay(b"buffers", 512, &mut cases, &mut refused, &mut differ);
+    replay(b"sets", 512, &mut cases, &mut refused, &mut differ);
     print_counts(cases, differ);
     print_public_counts(cases, refused, differ);
     print_call(b"other calls         ", cases[0], differ[0]);

@@ -6,7 +6,8 @@ use Prim.Native.Nat.{ℕ, _+_, _*_, _<_, _≤_}
 use native.Mathlib.Omega.{arith}
 use lib.IntN.{ℤ, pos, _-ℤ_, _*ℤ_}
 use Rattle.words.specs.Integers.{up, dn, up-pos, dn-pos, one-zero, sum, difference, times-up, times-dn}
-use Rattle.stretch_rect.specs.Yuv.{setUnit, setSlack, decimalUnit, decimalSlack, ByteNear, RgbNear, bt601, rgbOf, redExact, greenExact, blueExact, lumaExact, chromaExact, lumaDecimal, chromaDecimal, redDecimal, greenDecimal, blueDecimal}
+use Rattle.yuv_sets.specs.Sets.{bt601}
+use Rattle.stretch_rect.specs.Yuv.{setUnit, setSlack, decimalUnit, decimalSlack, ByteNear, RgbNear, rgbOf, redExact, greenExact, blueExact, lumaExact, chromaExact, lumaDecimal, chromaDecimal, redDecimal, greenDecimal, blueDecimal}
 use Rattle.stretch_rect.specs.Nearness.{clamp-is, set-near}
 
 -- x, in units of 1 / 65536², and d, in units of 1 / 2000000, are less than 1/500 - 1/16384 apart

@@ -7,8 +7,9 @@ use lib.IntN.{ℤ}
 use Rattle.words.specs.Integers.{clampTo}
 use Rattle.channels.specs.Fractions.{Fraction, _over_, Near, whole-near}
 use Rattle.stretch_rect.specs.declared.Rgb.{Rgb}
-use Rattle.stretch_rect.specs.declared.YuvSet.{YuvSet}
-use Rattle.stretch_rect.specs.Yuv.{setUnit, decimalUnit, ByteNear, RgbNear, bt601, rgbOf, redExact, greenExact, blueExact, redDecimal, greenDecimal, blueDecimal}
+use Rattle.yuv_sets.specs.declared.YuvSet.{YuvSet}
+use Rattle.yuv_sets.specs.Sets.{bt601}
+use Rattle.stretch_rect.specs.Yuv.{setUnit, decimalUnit, ByteNear, RgbNear, rgbOf, redExact, greenExact, blueExact, redDecimal, greenDecimal, blueDecimal}
 use Rattle.stretch_rect.specs.Nearness.{set-near}
 use Rattle.stretch_rect.specs.Decimals.{bt601-near}
 

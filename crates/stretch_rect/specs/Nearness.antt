@@ -9,7 +9,7 @@ use native.Mathlib.Decide.{decLe}
 use lib.Dec.{lit<}
 use lib.IntN.{ℤ, pos, negsuc, _+ℤ_, _-ℤ_}
 use Rattle.words.specs.Integers.{floorDiv, clampTo, up, dn, up-pos, dn-pos, one-zero, sum, difference, floor-low, floor-high}
-use Rattle.stretch_rect.specs.declared.YuvSet.{YuvSet}
+use Rattle.yuv_sets.specs.declared.YuvSet.{YuvSet}
 use Rattle.stretch_rect.specs.Yuv.{setUnit, setSlack, nearestWhole, ByteNear, RgbNear, rgbOf, redRounded, greenRounded, blueRounded, redExact, greenExact, blueExact, lumaPart, chromaPart, lumaExact, chromaExact}
 
 pub clamp-is : (top : ℕ) (z : ℤ) → clampTo top z ≡ min (up z) top

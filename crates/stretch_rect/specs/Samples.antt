@@ -1,4 +1,4 @@
--- Which bytes are a texel's luma, U and V, and the colour that they stand for.
+-- Which bytes are a texel's luma, U and V, and the colour that they stand for by a set of numbers.
 -- Assumes nothing.
 use mathlib.Core.Bool.{Bool}
 use mathlib.Core.List.{List}
@@ -11,7 +11,8 @@ use Rattle.planar_yuv.specs.Offsets.{lumaOffset, uOffset, vOffset}
 use Rattle.planar_yuv.specs.Answers.{TexelOf}
 use Rattle.planar_yuv.specs.declared.PlanarYuvLayout.{PlanarYuvLayout}
 use Rattle.stretch_rect.specs.declared.Rgb.{Rgb}
-use Rattle.stretch_rect.specs.Yuv.{rgbOf, bt601}
+use Rattle.yuv_sets.specs.declared.YuvSet.{YuvSet}
+use Rattle.stretch_rect.specs.Yuv.{rgbOf}
 
 -- ---- a macropixel is Y U Y V in YUY2 and U Y V Y in UYVY
 -- the first Y is the luma of the even column, and the second that of the odd one
@@ -27,12 +28,12 @@ abbrev pub vPlace : ℕ → ℕ
 vPlace f = pick (eqb f YUY2) 3 2
 
 -- the colour of a texel of a packed macropixel
-unfoldable pub packedRgb : (f : ℕ) (macropixel : List ℕ) (odd : Bool) → Rgb
-packedRgb f macropixel odd = rgbOf bt601 (getD macropixel (lumaPlace f odd) 0) (getD macropixel (uPlace f) 0) (getD macropixel (vPlace f) 0)
+unfoldable pub packedRgb : YuvSet → (f : ℕ) (macropixel : List ℕ) (odd : Bool) → Rgb
+packedRgb s f macropixel odd = rgbOf s (getD macropixel (lumaPlace f odd) 0) (getD macropixel (uPlace f) 0) (getD macropixel (vPlace f) 0)
 
 -- the colour of texel (x, y) of a planar frame
-unfoldable pub planarRgb : (f : ℕ) (frame : List ℕ) (pitch rows x y : ℕ) → Rgb
-planarRgb f frame pitch rows x y = rgbOf bt601 (getD frame (lumaOffset pitch x y) 0) (getD frame (uOffset f pitch rows x y) 0) (getD frame (vOffset f pitch rows x y) 0)
+unfoldable pub planarRgb : YuvSet → (f : ℕ) (frame : List ℕ) (pitch rows x y : ℕ) → Rgb
+planarRgb s f frame pitch rows x y = rgbOf s (getD frame (lumaOffset pitch x y) 0) (getD frame (uOffset f pitch rows x y) 0) (getD frame (vOffset f pitch rows x y) 0)
 
 -- the frame has the three bytes of texel (x, y)
 pub record Readable (f : ℕ) (frame : List ℕ) (l : PlanarYuvLayout) (x y : ℕ) : Type 0 where

@@ -3,8 +3,8 @@
 use Prim.Native.Nat.{ℕ, _+_, _*_, _/_, _≤_}
 use lib.IntN.{ℤ, pos, _+ℤ_, _-ℤ_, _*ℤ_}
 use Rattle.words.specs.Integers.{floorDiv, clampTo}
+use Rattle.yuv_sets.specs.declared.YuvSet.{YuvSet}
 use Rattle.stretch_rect.specs.declared.Rgb.{Rgb}
-use Rattle.stretch_rect.specs.declared.YuvSet.{YuvSet}
 
 -- ---- the values that a set's own numbers define
 -- they are counted in units of 1 / 65536²
@@ -65,29 +65,6 @@ module _ (s : YuvSet) (y u v : ℕ) where
   -- the colour: each rounded channel clamped to a byte
   unfoldable pub rgbOf : Rgb
   rgbOf = record { r = clampTo 255 redRounded; g = clampTo 255 greenRounded; b = clampTo 255 blueRounded }
-
--- a set with gains below 4, an offset below 64 and a chroma centre of 127.5 or 128
-pub record Legal (s : YuvSet) : Type 0 where
-  pub luma-gain : s .«luma_gain» ≤ 262143
-  pub luma-offset : s .«luma_offset» ≤ 4194303
-  pub v-to-red : s .«v_to_red» ≤ 262143
-  pub u-to-green : s .«u_to_green» ≤ 262143
-  pub v-to-green : s .«v_to_green» ≤ 262143
-  pub u-to-blue : s .«u_to_blue» ≤ 262143
-  pub centre-least : 255 ≤ s .«chroma_centre»
-  pub centre-most : s .«chroma_centre» ≤ 256
-
--- document 01's numbers
-abbrev pub bt601 : YuvSet
-bt601 = record {
-  «luma_gain» = 76284;
-  «luma_offset» = 1052836;
-  «v_to_red» = 104595;
-  «u_to_green» = 25690;
-  «v_to_green» = 53281;
-  «u_to_blue» = 132186;
-  «chroma_centre» = 255;
-}
 
 -- ---- document 01's decimals
 -- they are counted in units of 1 / 2000000

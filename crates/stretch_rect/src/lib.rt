@@ -1,6 +1,7 @@
 // The colour of a YUV texel, from the YUV functions of stretch_rect.rs of athei/mtld3d (an altered version, see NOTICE). A sample
-// of luma, U and V becomes red, green and blue in 16.16 fixed point; right shifts of negative numbers round down, and each channel
-// is rounded to the nearest whole number and clamped to a byte. Nothing is refused: the inner parts ask for the texel's own bytes.
+// of luma, U and V becomes red, green and blue in 16.16 fixed point, by a set of numbers; right shifts of negative numbers round down,
+// and each channel is rounded to the nearest whole number and clamped to a byte. Nothing is refused: the inner parts ask for the
+// texel's own bytes and for a legal set.
 ghost use mathlib.Core.Path.{_≡_};
 ghost use mathlib.Core.Bool.{true};
 ghost use Prim.Native.Nat.{_≤_, _<_};
@@ -10,27 +11,19 @@ ghost use Rattle.words.specs.Tests.{pick};
 ghost use Rattle.words.specs.Integers.{clampTo};
 ghost use Rattle.formats.specs.Codes.{YUY2, UYVY, YV12, NV12};
 ghost use Rattle.formats.specs.Classes.{isPackedYuv, isPlanarYuv};
-ghost use Rattle.stretch_rect.specs.Yuv.{lumaPart, chromaPart, nearestWhole, Legal, rgbOf, bt601, RgbNear, setUnit, setSlack, redExact, greenExact, blueExact, decimalUnit, decimalSlack, redDecimal, greenDecimal, blueDecimal};
+ghost use Rattle.yuv_sets.specs.Sets.{bt601};
+ghost use Rattle.yuv_sets.specs.Legal.{Legal};
+ghost use Rattle.stretch_rect.specs.Yuv.{lumaPart, chromaPart, nearestWhole, rgbOf, RgbNear, setUnit, setSlack, redExact, greenExact, blueExact, decimalUnit, decimalSlack, redDecimal, greenDecimal, blueDecimal};
 ghost use Rattle.stretch_rect.specs.Samples.{packedRgb, planarRgb, Readable};
 use formats::D3DFMT_YUY2;
 use formats::D3DFMT_YV12;
 use planar_yuv::PlanarYuvLayout;
+use yuv_sets::YuvSet;
 
 pub struct Rgb {
     pub r: u8,
     pub g: u8,
     pub b: u8,
-}
-
-// The numbers of a conversion: gains and offset in 65536ths, and the centre of the chroma in halves.
-pub struct YuvSet {
-    pub luma_gain: u32,
-    pub luma_offset: u32,
-    pub v_to_red: u32,
-    pub u_to_green: u32,
-    pub v_to_green: u32,
-    pub u_to_blue: u32,
-    pub chroma_centre: u32,
 }
 
 fn scaled_luma(luma: u8, offset: u32, gain: u32) -> i64
@@ -83,20 +76,7 @@ pub fn yuv_to_rgb8(luma: u8, cb: u8, cr: u8) -> Rgb
     ensures is { λ p. ⌜ p ≡ rgbOf bt601 luma cb cr ⌝ }
     ensures near { λ p. ⌜ RgbNear decimalUnit decimalSlack (redDecimal luma cb cr) (greenDecimal luma cb cr) (blueDecimal luma cb cr) p ⌝ }
 {
-    convert_with_set(
-        YuvSet {
-            luma_gain: 76284,
-            luma_offset: 1052836,
-            v_to_red: 104595,
-            u_to_green: 25690,
-            v_to_green: 53281,
-            u_to_blue: 132186,
-            chroma_centre: 255,
-        },
-        luma,
-        cb,
-        cr,
-    )
+    convert_with_set(yuv_sets::bt601(), luma, cb, cr)
 }
 
 // The luma of a texel of a macropixel: the first, or the second where the column is odd.
@@ -107,69 +87,82 @@ fn luma_of(odd: bool, first: u8, second: u8) -> u8
 }
 
 // A texel of a YUY2 macropixel, which is Y U Y V.
-pub fn decode_yuy2(macropixel: &[u8], odd: bool) -> Rgb
-    requires { ⌜ 4 ≤ length (now macropixel) ⌝ }
-    ensures { λ p. ⌜ p ≡ packedRgb YUY2 (now (macropixel .entry)) odd ⌝ }
+pub fn decode_yuy2(numbers: YuvSet, macropixel: &[u8], odd: bool) -> Rgb
+    requires { ⌜ Legal numbers × (4 ≤ length (now macropixel)) ⌝ }
+    ensures { λ p. ⌜ p ≡ packedRgb numbers YUY2 (now (macropixel .entry)) odd ⌝ }
 {
     let luma = luma_of(odd, macropixel[0], macropixel[2]);
-    yuv_to_rgb8(luma, macropixel[1], macropixel[3])
+    convert_with_set(numbers, luma, macropixel[1], macropixel[3])
 }
 
 // A texel of a UYVY macropixel, which is U Y V Y.
-pub fn decode_uyvy(macropixel: &[u8], odd: bool) -> Rgb
-    requires { ⌜ 4 ≤ length (now macropixel) ⌝ }
-    ensures { λ p. ⌜ p ≡ packedRgb UYVY (now (macropixel .entry)) odd ⌝ }
+pub fn decode_uyvy(numbers: YuvSet, macropixel: &[u8], odd: bool) -> Rgb
+    requires { ⌜ Legal numbers × (4 ≤ length (now macropixel)) ⌝ }
+    ensures { λ p. ⌜ p ≡ packedRgb numbers UYVY (now (macropixel .entry)) odd ⌝ }
 {
     let luma = luma_of(odd, macropixel[1], macropixel[3]);
-    yuv_to_rgb8(luma, macropixel[0], macropixel[2])
+    convert_with_set(numbers, luma, macropixel[0], macropixel[2])
 }
 
 // A texel of a packed macropixel of four bytes.
-pub fn decode_packed_yuv(d3d_format: u32, macropixel: &[u8], odd: bool) -> Rgb
-    requires { ⌜ (isPackedYuv «d3d_format» ≡ true) × (4 ≤ length (now macropixel)) ⌝ }
-    ensures { λ p. ⌜ p ≡ packedRgb «d3d_format» (now (macropixel .entry)) odd ⌝ }
+pub fn decode_packed_yuv(numbers: YuvSet, d3d_format: u32, macropixel: &[u8], odd: bool) -> Rgb
+    requires { ⌜ Legal numbers × (isPackedYuv «d3d_format» ≡ true) × (4 ≤ length (now macropixel)) ⌝ }
+    ensures { λ p. ⌜ p ≡ packedRgb numbers «d3d_format» (now (macropixel .entry)) odd ⌝ }
 {
     if d3d_format == D3DFMT_YUY2 {
-        return decode_yuy2(macropixel, odd);
+        return decode_yuy2(numbers, macropixel, odd);
     }
-    decode_uyvy(macropixel, odd)
+    decode_uyvy(numbers, macropixel, odd)
 }
 
 // Texel (x, y) of a YV12 frame: its own luma byte, and the chroma that its 2 x 2 block shares.
-pub fn decode_yv12(frame: &[u8], layout: PlanarYuvLayout, x: usize, y: usize) -> Rgb
-    requires { ⌜ Readable YV12 (now frame) layout x y ⌝ }
-    ensures { λ p. ⌜ p ≡ planarRgb YV12 (now (frame .entry)) (layout .pitch) (layout .«luma_rows») x y ⌝ }
+pub fn decode_yv12(
+    numbers: YuvSet,
+    frame: &[u8],
+    layout: PlanarYuvLayout,
+    x: usize,
+    y: usize,
+) -> Rgb
+    requires { ⌜ Legal numbers × Readable YV12 (now frame) layout x y ⌝ }
+    ensures { λ p. ⌜ p ≡ planarRgb numbers YV12 (now (frame .entry)) (layout .pitch) (layout .«luma_rows») x y ⌝ }
 {
     let luma = layout.luma_offset(x, y);
     let u = layout.yv12_u_offset(x, y);
     let v = layout.yv12_v_offset(x, y);
-    yuv_to_rgb8(frame[luma], frame[u], frame[v])
+    convert_with_set(numbers, frame[luma], frame[u], frame[v])
 }
 
 // Texel (x, y) of an NV12 frame.
-pub fn decode_nv12(frame: &[u8], layout: PlanarYuvLayout, x: usize, y: usize) -> Rgb
-    requires { ⌜ Readable NV12 (now frame) layout x y ⌝ }
-    ensures { λ p. ⌜ p ≡ planarRgb NV12 (now (frame .entry)) (layout .pitch) (layout .«luma_rows») x y ⌝ }
+pub fn decode_nv12(
+    numbers: YuvSet,
+    frame: &[u8],
+    layout: PlanarYuvLayout,
+    x: usize,
+    y: usize,
+) -> Rgb
+    requires { ⌜ Legal numbers × Readable NV12 (now frame) layout x y ⌝ }
+    ensures { λ p. ⌜ p ≡ planarRgb numbers NV12 (now (frame .entry)) (layout .pitch) (layout .«luma_rows») x y ⌝ }
 {
     let luma = layout.luma_offset(x, y);
     let pair = layout.nv12_uv_offset(x, y);
     let next = pair + 1;
-    yuv_to_rgb8(frame[luma], frame[pair], frame[next])
+    convert_with_set(numbers, frame[luma], frame[pair], frame[next])
 }
 
 // Texel (x, y) of a planar frame.
 pub fn decode_planar_yuv(
+    numbers: YuvSet,
     d3d_format: u32,
     frame: &[u8],
     layout: PlanarYuvLayout,
     x: usize,
     y: usize,
 ) -> Rgb
-    requires { ⌜ (isPlanarYuv «d3d_format» ≡ true) × Readable «d3d_format» (now frame) layout x y ⌝ }
-    ensures { λ p. ⌜ p ≡ planarRgb «d3d_format» (now (frame .entry)) (layout .pitch) (layout .«luma_rows») x y ⌝ }
+    requires { ⌜ Legal numbers × (isPlanarYuv «d3d_format» ≡ true) × Readable «d3d_format» (now frame) layout x y ⌝ }
+    ensures { λ p. ⌜ p ≡ planarRgb numbers «d3d_format» (now (frame .entry)) (layout .pitch) (layout .«luma_rows») x y ⌝ }
 {
     if d3d_format == D3DFMT_YV12 {
-        return decode_yv12(frame, layout, x, y);
+        return decode_yv12(numbers, frame, layout, x, y);
     }
-    decode_nv12(frame, layout, x, y)
+    decode_nv12(numbers, frame, layout, x, y)
 }

@@ -1,9 +1,10 @@
--- The exported calls in terms of the inner ones: a region from its numbers, and the values that a layout or a colour hands back.
+-- The exported calls in terms of the inner ones: a region and a set from their numbers, and the values that a layout or a colour hands back.
 -- Assumes nothing.
 use mathlib.Core.List.{List, [], _∷_}
 use Prim.Native.Nat.{ℕ}
 use lib.ListN.{getD}
 use Rattle.convert_reply.specs.declared.ConvertRegion.{ConvertRegion}
+use Rattle.yuv_sets.specs.declared.YuvSet.{YuvSet}
 use Rattle.planar_yuv.specs.Offsets.{uOffset, vOffset}
 use Rattle.planar_yuv.specs.Apart.{Planes}
 use Rattle.planar_yuv.specs.Answers.{Reply}
@@ -25,6 +26,18 @@ regionOf src-x src-y dst-x dst-y width height src-pitch dst-pitch src-slice-pitc
   «src_slice_pitch» = src-slice-pitch;
   «dst_slice_pitch» = dst-slice-pitch;
   depth = depth;
+}
+
+-- the set of numbers that it is given
+abbrev pub setOf : (luma-gain luma-offset v-to-red u-to-green v-to-green u-to-blue chroma-centre : ℕ) → YuvSet
+setOf luma-gain luma-offset v-to-red u-to-green v-to-green u-to-blue chroma-centre = record {
+  «luma_gain» = luma-gain;
+  «luma_offset» = luma-offset;
+  «v_to_red» = v-to-red;
+  «u_to_green» = u-to-green;
+  «v_to_green» = v-to-green;
+  «u_to_blue» = u-to-blue;
+  «chroma_centre» = chroma-centre;
 }
 
 -- the three bytes of a colour, in order

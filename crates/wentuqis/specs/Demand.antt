@@ -8,9 +8,10 @@ use lib.Dec.{lit<}
 use lib.ListN.{length, getD}
 use Rattle.words.specs.Little.{small-list}
 use Rattle.words.specs.Tests.{pick}
+use Rattle.yuv_sets.specs.declared.YuvSet.{YuvSet}
 use Rattle.convert_reply.specs.declared.ConvertRegion.{ConvertRegion}
-use Rattle.pixel_convert.specs.Regions.{convertedBytes, NearSource}
-use Rattle.pixel_convert.specs.Promises.{near-source}
+use Rattle.regions.specs.Regions.{convertedWith, NearWith}
+use Rattle.regions.specs.Promises.{near-source}
 use Rattle.depth_texture.specs.declared.PlaneLayout.{PlaneLayout}
 use Rattle.depth_pixels.specs.Pixels.{hasStencil, KeepsAll}
 use Rattle.depth_texture.specs.Replies.{refusalOf}
@@ -25,8 +26,9 @@ abbrev pub Bytewise : List ℕ → Type 0
 Bytewise l = (i : ℕ) → getD l i 0 < 256
 
 pub record DemandThree : Type 0 where
-  -- every conversion of a region, whatever its formats, buffers and numbers; NearSource speaks where it is accepted and destination texels share no byte
-  pub near : (src dst : List ℕ) → Bytewise src → (source destination : ℕ) (r : ConvertRegion) → NearSource src dst (convertedBytes src dst source destination r) source destination r
+  -- every conversion of a region, whatever its set, formats, buffers and numbers; NearWith speaks where it is accepted and destination texels share no byte
+  pub near : (numbers : YuvSet) (src dst : List ℕ) → Bytewise src → (source destination : ℕ) (r : ConvertRegion)
+      → NearWith numbers src dst (convertedWith numbers src dst source destination r) source destination r
   -- every accepted packing
   pub nearest : (f : ℕ) (l : PlaneLayout) (depth stencil packed : List ℕ) (pitch : ℕ) → Bytewise stencil
       → refusalOf f l (length packed) pitch (length depth) (length stencil) ≡ 0 → NearestCodes f l depth (packedBuffer f l depth stencil packed pitch) pitch
@@ -46,7 +48,7 @@ stencil-small f stencil small a = go (hasStencil f)
 -- THE DEMAND IS MET
 pub demand-three : DemandThree
 demand-three = record {
-  near = λ src dst small s d r. near-source src small dst s d r;
+  near = λ numbers src dst small s d r. near-source numbers src small dst s d r;
   nearest = λ f l depth stencil packed pitch small e.
       subst (λ p. NearestCodes f l depth p pitch) (packed-accepted f l packed pitch depth stencil e)
       (λ x y xl yl. nearest-packed f l depth stencil packed pitch (accepts f l (length packed) pitch (length depth) (length stencil) e) x y xl yl (stencil-small f stencil small _));

@@ -6,11 +6,12 @@ use Prim.Native.Nat.{ℕ, _<_}
 use native.Mathlib.Omega.{arith}
 use lib.ListN.{length}
 use borrow.Author.Tests.{ne-eqb}
+use Rattle.yuv_sets.specs.declared.YuvSet.{YuvSet}
 use Rattle.convert_reply.specs.declared.ConvertRegion.{ConvertRegion}
 use Rattle.convert_reply.specs.declared.ConvertReply.{ConvertReply}
-use Rattle.convert_reply.specs.declared.ConvertReply.the-variants.{Accepted, Unsupported, PlanarShape, SourceOutside, DestinationOutside}
+use Rattle.convert_reply.specs.declared.ConvertReply.the-variants.{Accepted, Unsupported, PlanarShape, SourceOutside, DestinationOutside, IllegalSet}
 use Rattle.convert_reply.specs.Replies as replies
-use Rattle.pixel_convert.specs.Regions as regions
+use Rattle.regions.specs.Regions as regions
 use Rattle.depth_texture.specs.declared.PlaneLayout.{PlaneLayout}
 use Rattle.depth_texture.specs.Replies.{refusalOf}
 use Rattle.depth_texture.specs.Planes.{packedBuffer}
@@ -24,10 +25,11 @@ unaccepted Unsupported a b h = refl
 unaccepted PlanarShape a b h = refl
 unaccepted SourceOutside a b h = refl
 unaccepted DestinationOutside a b h = refl
+unaccepted IllegalSet a b h = refl
 
-pub conversion-refused : (src dst : List ℕ) (s d : ℕ) (r : ConvertRegion) → 0 < replies.replyNumber (replies.convertReply src dst s d r) → regions.convertedBytes src dst s d r ≡ dst
-unfolding regions.convertedBytes
-conversion-refused src dst s d r h = unaccepted (replies.convertReply src dst s d r) (regions.regionWritten src s d r dst) dst h
+pub conversion-refused : (numbers : YuvSet) (src dst : List ℕ) (s d : ℕ) (r : ConvertRegion) → 0 < replies.replyNumber (replies.replyWith numbers src dst s d r) → regions.convertedWith numbers src dst s d r ≡ dst
+unfolding regions.convertedWith
+conversion-refused numbers src dst s d r h = unaccepted (replies.replyWith numbers src dst s d r) (regions.regionWritten numbers src s d r dst) dst h
 
 -- ---- two calls, the second only where the first is accepted
 first-refused : (a b : ℕ) → (a ≡ 0 → ⊥) → firstRefusal a b ≡ a

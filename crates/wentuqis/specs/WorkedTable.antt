@@ -17,14 +17,16 @@ use Rattle.channels.specs.Expansion as widths
 use Rattle.channels.specs.Nearest as bytewise
 use Rattle.channels.specs.Luminance as mean
 use Rattle.stretch_rect.specs.Yuv as yuv
-use Rattle.stretch_rect.specs.Yuv.{bt601, rgbOf}
+use Rattle.yuv_sets.specs.Sets as numbers
+use Rattle.yuv_sets.specs.Sets.{bt601}
+use Rattle.stretch_rect.specs.Yuv.{rgbOf}
 use Rattle.convert_reply.specs.declared.ConvertRegion.{ConvertRegion}
 use Rattle.texels.specs.Texels as texels
 use Rattle.places.specs.Places as places
 use Rattle.convert_reply.specs.Replies as checks
-use Rattle.pixel_convert.specs.Regions as regions
+use Rattle.regions.specs.Regions as regions
 use Rattle.convert_reply.specs.Replies.{convertReply, replyNumber}
-use Rattle.pixel_convert.specs.Regions.{convertedBytes}
+use Rattle.regions.specs.Regions.{convertedBytes}
 use Rattle.binary16.specs.Half as binary16
 use Rattle.binary16.specs.Half.{halfOf}
 use Rattle.convert.specs.Fill as fill
@@ -135,10 +137,10 @@ unfolding integers.clampTo
     widths.expanded widths.truncated
     bytewise.rounded
     mean.luminanceOf
-    yuv.lumaExact yuv.chromaExact yuv.lumaPart yuv.chromaPart yuv.nearestWhole yuv.redRounded yuv.greenRounded yuv.blueRounded yuv.rgbOf
+    numbers.isLegal yuv.lumaExact yuv.chromaExact yuv.lumaPart yuv.chromaPart yuv.nearestWhole yuv.redRounded yuv.greenRounded yuv.blueRounded yuv.rgbOf
     texels.colourOf texels.decodedOf texels.encodedOf texels.encodedBytes
     places.texelStart places.placesAt places.placesIn places.bytesAt places.texelIn places.insideAll
-    checks.canConvertUpdate checks.canConvert checks.badPlanarShape checks.isEmpty checks.sourceInside checks.destinationInside checks.replyTo regions.texelOf regions.texelAt regions.toAt regions.sourceTexel regions.written regions.rowWritten regions.sliceWritten regions.regionWritten regions.convertedBytes
+    checks.canConvertUpdate checks.canConvert checks.badPlanarShape checks.illegalSet checks.isEmpty checks.sourceInside checks.destinationInside checks.replyTo regions.texelOf regions.texelAt regions.toAt regions.sourceTexel regions.written regions.rowWritten regions.sliceWritten regions.regionWritten regions.convertedWith
     rules.allowed
     offsets.nv12U offsets.yv12V offsets.yv12U offsets.uOffset offsets.vOffset
     answers.fromPitch answers.fromWidth

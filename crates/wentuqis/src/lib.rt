@@ -1,14 +1,15 @@
 // The library that Rust and C link: each public call under its plain name. A reply of 0 is acceptance, any other number is the
-// refusal of document 01. Nothing is asked of a caller that Rattle can see: every input has its reply, a refused call leaves
+// refusal of document 01, or 15 of document 02. Nothing is asked of a caller that Rattle can see: every input has its reply, a refused call leaves
 // every lent byte as it was, and what is handed back is then zero.
 ghost use mathlib.Core.Path.{_≡_};
 ghost use mathlib.Core.List.{[], _∷_};
 ghost use Prim.Native.Nat.{_≤_, _<_};
 ghost use lib.ListN.{length, getD};
 ghost use Rattle.planar_yuv.specs.Answers.{replyOf, fromPitch, fromWidth};
-ghost use Rattle.stretch_rect.specs.Yuv.{bt601, rgbOf, RgbNear, decimalUnit, decimalSlack, redDecimal, greenDecimal, blueDecimal};
-ghost use Rattle.convert_reply.specs.Replies.{canConvert, canConvertUpdate, convertReply, replyNumber};
-ghost use Rattle.pixel_convert.specs.Regions.{convertedBytes, NearSource, OthersKept};
+ghost use Rattle.yuv_sets.specs.Sets.{bt601};
+ghost use Rattle.stretch_rect.specs.Yuv.{rgbOf, RgbNear, decimalUnit, decimalSlack, redDecimal, greenDecimal, blueDecimal};
+ghost use Rattle.convert_reply.specs.Replies.{canConvert, canConvertUpdate, replyWith, convertReply, replyNumber};
+ghost use Rattle.regions.specs.Regions.{convertedWith, convertedBytes, NearWith, NearSource, OwnWith, OthersKept};
 ghost use Rattle.formats.specs.Table.{bytesOf};
 ghost use Rattle.formats.specs.Lanes.{red, green, blue, alpha};
 ghost use Rattle.binary16.specs.Half.{halfOf, HalfOf};
@@ -21,12 +22,13 @@ ghost use Rattle.depth_texture.specs.Replies.{refusalOf};
 ghost use Rattle.depth_texture.specs.Planes.{unpackedDepth, unpackedStencil, packedBuffer};
 ghost use Rattle.depth_pixels.specs.Pixels.{KeepsAll};
 ghost use Rattle.depth_texture.specs.Promises.{firstRefusal, Restores, SamePixels, PlanesKept, SameElsewhere, NearestCodes};
-ghost use Rattle.wentuqis.specs.Calls.{regionOf, rgbList, colourIn, planarValues, PlanesApart, planeValues, planesIn};
+ghost use Rattle.wentuqis.specs.Calls.{regionOf, setOf, rgbList, colourIn, planarValues, PlanesApart, planeValues, planesIn};
 use convert::FillReply;
 use convert_reply::ConvertRegion;
 use depth_texture::PlaneLayout;
 use depth_texture::PlaneLayoutAnswer;
 use planar_yuv::PlanarYuvAnswer;
+use yuv_sets::YuvSet;
 
 // ---- conversion
 
@@ -44,6 +46,37 @@ pub extern "C" fn wentuqis_can_convert_update(src_format: u32, dst_format: u32) 
     ensures { λ r. ⌜ r ≡ canConvertUpdate «src_format» «dst_format» ⌝ }
 {
     convert_reply::can_convert_update(src_format, dst_format)
+}
+
+// The region of a conversion, from its numbers.
+fn region_of(
+    src_x: u32,
+    src_y: u32,
+    dst_x: u32,
+    dst_y: u32,
+    width: u32,
+    height: u32,
+    src_pitch: usize,
+    dst_pitch: usize,
+    src_slice_pitch: usize,
+    dst_slice_pitch: usize,
+    depth: usize,
+) -> ConvertRegion
+    ensures { λ r. ⌜ r ≡ regionOf «src_x» «src_y» «dst_x» «dst_y» width height «src_pitch» «dst_pitch» «src_slice_pitch» «dst_slice_pitch» depth ⌝ }
+{
+    ConvertRegion {
+        src_x: src_x,
+        src_y: src_y,
+        dst_x: dst_x,
+        dst_y: dst_y,
+        width: width,
+        height: height,
+        src_pitch: src_pitch,
+        dst_pitch: dst_pitch,
+        src_slice_pitch: src_slice_pitch,
+        dst_slice_pitch: dst_slice_pitch,
+        depth: depth,
+    }
 }
 
 // Refusals 1 to 4.
@@ -70,7 +103,7 @@ pub extern "C" fn wentuqis_convert_region(
     ensures near { λ _. ⌜ NearSource (now (src .entry)) (now (dst .entry)) (now (dst .exit)) «src_format» «dst_format» (regionOf «src_x» «src_y» «dst_x» «dst_y» width height «src_pitch» «dst_pitch» «src_slice_pitch» «dst_slice_pitch» depth) ⌝ }
     ensures kept { λ _. ⌜ OthersKept (now (dst .entry)) (now (dst .exit)) «dst_format» (regionOf «src_x» «src_y» «dst_x» «dst_y» width height «src_pitch» «dst_pitch» «src_slice_pitch» «dst_slice_pitch» depth) ⌝ }
 {
-    let region = ConvertRegion {
+    let region = region_of(
         src_x,
         src_y,
         dst_x,
@@ -82,8 +115,73 @@ pub extern "C" fn wentuqis_convert_region(
         src_slice_pitch,
         dst_slice_pitch,
         depth,
-    };
+    );
     let reply = pixel_convert::convert_region(dst, dst_format, src, src_format, region);
+    reply.number()
+}
+
+// Refusals 1, 2, 15, 3 and 4, in this order: a YUV source by a set of numbers, which 15 refuses if it is not legal.
+#[no_mangle]
+pub extern "C" fn wentuqis_convert_region_with_set(
+    dst: &mut [u8],
+    dst_format: u32,
+    src: &[u8],
+    src_format: u32,
+    src_x: u32,
+    src_y: u32,
+    dst_x: u32,
+    dst_y: u32,
+    width: u32,
+    height: u32,
+    src_pitch: usize,
+    dst_pitch: usize,
+    src_slice_pitch: usize,
+    dst_slice_pitch: usize,
+    depth: usize,
+    luma_gain: u32,
+    luma_offset: u32,
+    v_to_red: u32,
+    u_to_green: u32,
+    v_to_green: u32,
+    u_to_blue: u32,
+    chroma_centre: u32,
+) -> u32
+    ensures reply { λ r. ⌜ r ≡ replyNumber (replyWith (setOf «luma_gain» «luma_offset» «v_to_red» «u_to_green» «v_to_green» «u_to_blue» «chroma_centre») (now (src .entry)) (now (dst .entry)) «src_format» «dst_format» (regionOf «src_x» «src_y» «dst_x» «dst_y» width height «src_pitch» «dst_pitch» «src_slice_pitch» «dst_slice_pitch» depth)) ⌝ }
+    ensures bytes { λ _. ⌜ now (dst .exit) ≡ convertedWith (setOf «luma_gain» «luma_offset» «v_to_red» «u_to_green» «v_to_green» «u_to_blue» «chroma_centre») (now (src .entry)) (now (dst .entry)) «src_format» «dst_format» (regionOf «src_x» «src_y» «dst_x» «dst_y» width height «src_pitch» «dst_pitch» «src_slice_pitch» «dst_slice_pitch» depth) ⌝ }
+    ensures near { λ _. ⌜ NearWith (setOf «luma_gain» «luma_offset» «v_to_red» «u_to_green» «v_to_green» «u_to_blue» «chroma_centre») (now (src .entry)) (now (dst .entry)) (now (dst .exit)) «src_format» «dst_format» (regionOf «src_x» «src_y» «dst_x» «dst_y» width height «src_pitch» «dst_pitch» «src_slice_pitch» «dst_slice_pitch» depth) ⌝ }
+    ensures own { λ _. ⌜ OwnWith (setOf «luma_gain» «luma_offset» «v_to_red» «u_to_green» «v_to_green» «u_to_blue» «chroma_centre») (now (src .entry)) (now (dst .entry)) (now (dst .exit)) «src_format» «dst_format» (regionOf «src_x» «src_y» «dst_x» «dst_y» width height «src_pitch» «dst_pitch» «src_slice_pitch» «dst_slice_pitch» depth) ⌝ }
+    ensures kept { λ _. ⌜ OthersKept (now (dst .entry)) (now (dst .exit)) «dst_format» (regionOf «src_x» «src_y» «dst_x» «dst_y» width height «src_pitch» «dst_pitch» «src_slice_pitch» «dst_slice_pitch» depth) ⌝ }
+{
+    let region = region_of(
+        src_x,
+        src_y,
+        dst_x,
+        dst_y,
+        width,
+        height,
+        src_pitch,
+        dst_pitch,
+        src_slice_pitch,
+        dst_slice_pitch,
+        depth,
+    );
+    let numbers = YuvSet {
+        luma_gain,
+        luma_offset,
+        v_to_red,
+        u_to_green,
+        v_to_green,
+        u_to_blue,
+        chroma_centre,
+    };
+    let reply = pixel_convert::convert_region_with_set(
+        dst,
+        dst_format,
+        src,
+        src_format,
+        region,
+        numbers,
+    );
     reply.number()
 }
 

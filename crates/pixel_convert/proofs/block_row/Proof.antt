@@ -8,12 +8,14 @@ use lib.Seq.{sets}
 use denote.Ref.{now}
 use Rattle.words.specs.Iterate.{iterate, iterate-zero}
 use Rattle.formats.specs.Table.{partsOf, bytesOf}
+use Rattle.yuv_sets.specs.Sets.{bt601}
 use Rattle.texels.specs.Texels.{encodedBytes}
 use Rattle.blocks.specs.Blocks.{wordOf}
 use Rattle.places.specs.Places.{texelStart}
-use Rattle.pixel_convert.specs.Regions.{toAt, texelAt, sourceTexel, written, rowWritten}
+use Rattle.regions.specs.Regions.{toAt, texelAt, sourceTexel, written, rowWritten}
 use Rattle.convert_reply.specs.Passed.{convert-rgb}
-use Rattle.pixel_convert.specs.Carried.{Carried, read-room, write-room, block-rows, block-texels, block-carried, first-carried, row-read, row-write, lying-row}
+use Rattle.regions.specs.Fetch.{any-set}
+use Rattle.regions.specs.Carried.{Carried, read-room, write-room, block-rows, block-texels, block-carried, first-carried, row-read, row-write, lying-row}
 use borrow.Author.Needs.{needs}
 use Rattle.pixel_convert.proofs.block_row.Statement.{statement}
 use Rattle.pixel_convert.proofs.block_row.Tie as tie
@@ -22,7 +24,7 @@ use Rattle.pixel_convert.proofs.block_row.Tie as tie
 abbrev Inv-loop : tie.InvT-loop
 Inv-loop block₀ dst₀ dst-format to-size src src-format from-size z row from-x to-x from-y to-y from-pitch to-pitch from-slice to-slice texels first-from first-to from₀ to₀ done₀ block dst from to done =
     Carried src-format dst-format from-pitch from-slice to-pitch to-slice z from-y to-y from-x to-x done from to
-    × (dst ≡ iterate (λ k l. sets l (texelStart to-pitch to-slice (bytesOf dst-format) z to-y (to-x + k)) (encodedBytes dst-format (texelAt src src-format from-pitch from-slice z from-y (from-x + k)))) done dst₀)
+    × (dst ≡ iterate (λ k l. sets l (texelStart to-pitch to-slice (bytesOf dst-format) z to-y (to-x + k)) (encodedBytes dst-format (texelAt bt601 src src-format from-pitch from-slice z from-y (from-x + k)))) done dst₀)
     × (length dst ≡ length dst₀) × (length block ≡ length block₀) × (done ≤ texels)
 
 abbrev μ-loop : tie.MeasureT-loop
@@ -45,13 +47,13 @@ from-fits : (c : Begun) → entry c .args .z * entry c .args .region .«src_slic
 from-fits c =
     let s = entry c in
     let g = s .args in
-    row-read (now (g .src)) (length (now (g .dst))) (g .src-format) (g .dst-format) (g .region) (g .z) (g .row) (s .pre .0) (s .pre .1) (g .from-size) (g .to-size) (s .pre .2) (s .pre .3)
+    row-read bt601 (now (g .src)) (length (now (g .dst))) (g .src-format) (g .dst-format) (g .region) (g .z) (g .row) (s .pre .0) (s .pre .1) (g .from-size) (g .to-size) (s .pre .2) (s .pre .3)
 
 to-fits : (c : Begun) → entry c .args .z * entry c .args .region .«dst_slice_pitch» + (entry c .args .region .«dst_y» + entry c .args .row) * entry c .args .region .«dst_pitch» + entry c .args .region .«dst_x» * entry c .args .to-size + entry c .args .region .width * bytesOf (entry c .args .dst-format) ≤ length (now (entry c .args .dst))
 to-fits c =
     let s = entry c in
     let g = s .args in
-    row-write (now (g .src)) (length (now (g .dst))) (g .src-format) (g .dst-format) (g .region) (g .z) (g .row) (s .pre .0) (s .pre .1) (g .from-size) (g .to-size) (s .pre .2) (s .pre .3)
+    row-write bt601 (now (g .src)) (length (now (g .dst))) (g .src-format) (g .dst-format) (g .region) (g .z) (g .row) (s .pre .0) (s .pre .1) (g .from-size) (g .to-size) (s .pre .2) (s .pre .3)
 
 cast-from-x : tie.Need-cast-from-x Inv-loop μ-loop
 cast-from-x c = search needs
@@ -123,13 +125,14 @@ returns c =
     let s = entry (t .before) in
     let g = s .args in
     let wrote = c .before .before .rewrite-texels in
-    lying-row (now (g .src)) (length (now (g .dst))) (g .src-format) (g .dst-format) (g .region) (g .z) (g .row) (s .pre .0) (s .pre .1) (g .from-size) (g .to-size) (s .pre .2) (s .pre .3) (t .if1 .taken) (now (g .dst)) _ (wrote .result) (wrote .ensures)
+    λ numbers. lying-row bt601 (now (g .src)) (length (now (g .dst))) (g .src-format) (g .dst-format) (g .region) (g .z) (g .row) (s .pre .0) (s .pre .1) (g .from-size) (g .to-size) (s .pre .2) (s .pre .3) (t .if1 .taken) (now (g .dst)) _ (wrote .result) (wrote .ensures)
+    ∙ any-set bt601 numbers (now (g .src)) (g .src-format) (g .dst-format) (g .region) (g .z) (g .row) (now (g .dst)) (s .pre .1)
 
 loop-holds : tie.Need-loop-holds Inv-loop μ-loop
 loop-holds c =
     let s = entry (c .before) in
     let g = s .args in
-    (first-carried (now (g .src)) (length (now (g .dst))) (g .src-format) (g .dst-format) (g .region) (g .z) (g .row) (s .pre .0) (s .pre .1) (g .from-size) (g .to-size) (s .pre .2) (s .pre .3), sym (iterate-zero _ _), refl, refl, search needs)
+    (first-carried bt601 (now (g .src)) (length (now (g .dst))) (g .src-format) (g .dst-format) (g .region) (g .z) (g .row) (s .pre .0) (s .pre .1) (g .from-size) (g .to-size) (s .pre .2) (s .pre .3), sym (iterate-zero _ _), refl, refl, search needs)
 
 sub-next-block : tie.Need-sub-next-block Inv-loop μ-loop
 sub-next-block c = search needs
@@ -150,14 +153,14 @@ reads c =
     let s = start (c .before) in
     let g = s .args in
     let l = c .before .before .loop in
-    read-room (now (g .src)) (length (now (g .dst))) (g .src-format) (g .dst-format) (g .region) (g .z) (g .row) (s .pre .0) (s .pre .1) (l .done) (c .next-block .result) (l .from) (l .to) (l .inv .0) (sized c .0) (sized c .2)
+    read-room bt601 (now (g .src)) (length (now (g .dst))) (g .src-format) (g .dst-format) (g .region) (g .z) (g .row) (s .pre .0) (s .pre .1) (l .done) (c .next-block .result) (l .from) (l .to) (l .inv .0) (sized c .0) (sized c .2)
 
 writes : (c : tie.After-next-block Inv-loop μ-loop) → c .before .before .loop .to + c .next-block .result * bytesOf (start (c .before) .args .dst-format) ≤ length (now (start (c .before) .args .dst))
 writes c =
     let s = start (c .before) in
     let g = s .args in
     let l = c .before .before .loop in
-    write-room (now (g .src)) (length (now (g .dst))) (g .src-format) (g .dst-format) (g .region) (g .z) (g .row) (s .pre .0) (s .pre .1) (l .done) (c .next-block .result) (l .from) (l .to) (l .inv .0) (sized c .0) (sized c .2)
+    write-room bt601 (now (g .src)) (length (now (g .dst))) (g .src-format) (g .dst-format) (g .region) (g .z) (g .row) (s .pre .0) (s .pre .1) (l .done) (c .next-block .result) (l .from) (l .to) (l .inv .0) (sized c .0) (sized c .2)
 
 read-texels-requires : tie.Need-read-texels-requires Inv-loop μ-loop
 read-texels-requires c κs =
@@ -195,9 +198,9 @@ loop-again c =
     let l = i .before .loop in
     let read = c .before .before .before .before .before .before .before .read-texels in
     let wrote = c .before .before .write-texels in
-    let texels = block-texels (now (g .src)) (length (now (g .dst))) (g .src-format) (g .dst-format) (g .region) (g .z) (g .row) (s .pre .0) (s .pre .1) (l .done) (b .next-block .result) (l .from) (l .to) (l .inv .0) (sized b .0) (sized b .2) (read .last .0) (read .result) (read .ensures) in (
-      block-carried (now (g .src)) (length (now (g .dst))) (g .src-format) (g .dst-format) (g .region) (g .z) (g .row) (s .pre .0) (s .pre .1) (l .done) (b .next-block .result) (l .from) (l .to) (l .inv .0) (sized b .0) (sized b .2) (read .last .0) (read .result) (read .ensures) (wordOf (read .last .0)) (l .dst) (wrote .last .1 .1 .0) (wrote .result) (wrote .ensures),
-      block-rows (now (g .src)) (length (now (g .dst))) (g .src-format) (g .dst-format) (g .region) (g .z) (g .row) (s .pre .0) (s .pre .1) (l .done) (b .next-block .result) (l .from) (l .to) (l .inv .0) (sized b .0) (sized b .2) (wordOf (read .last .0)) (now (g .dst)) (l .dst) (wrote .last .1 .1 .0) (wrote .result) (wrote .ensures) texels (l .inv .1),
+    let texels = block-texels bt601 (now (g .src)) (length (now (g .dst))) (g .src-format) (g .dst-format) (g .region) (g .z) (g .row) (s .pre .0) (s .pre .1) (l .done) (b .next-block .result) (l .from) (l .to) (l .inv .0) (sized b .0) (sized b .2) (read .last .0) (read .result) (read .ensures) in (
+      block-carried bt601 (now (g .src)) (length (now (g .dst))) (g .src-format) (g .dst-format) (g .region) (g .z) (g .row) (s .pre .0) (s .pre .1) (l .done) (b .next-block .result) (l .from) (l .to) (l .inv .0) (sized b .0) (sized b .2) (read .last .0) (read .result) (read .ensures) (wordOf (read .last .0)) (l .dst) (wrote .last .1 .1 .0) (wrote .result) (wrote .ensures),
+      block-rows bt601 (now (g .src)) (length (now (g .dst))) (g .src-format) (g .dst-format) (g .region) (g .z) (g .row) (s .pre .0) (s .pre .1) (l .done) (b .next-block .result) (l .from) (l .to) (l .inv .0) (sized b .0) (sized b .2) (wordOf (read .last .0)) (now (g .dst)) (l .dst) (wrote .last .1 .1 .0) (wrote .result) (wrote .ensures) texels (l .inv .1),
       wrote .kept .1 .1 .0 ∙ l .inv .2,
       read .kept .0 ∙ l .inv .3,
       sized b .2,
@@ -213,7 +216,10 @@ returns-2 : tie.Need-returns-2 Inv-loop μ-loop
 unfolding rowWritten written toAt sourceTexel
 returns-2 c =
     let past = le-antisymm (c .before .loop .inv .4) (c .loop-test .left) in
-    c .before .loop .inv .1 ∙ rw past refl
+    let s = c .before .before .before .before .before .before .before .before .before .before .before in
+    let g = s .args in
+    λ numbers. c .before .loop .inv .1 ∙ rw past refl
+    ∙ any-set bt601 numbers (now (g .src)) (g .src-format) (g .dst-format) (g .region) (g .z) (g .row) (now (g .dst)) (s .pre .1)
 
 pub block-row-spec : {M : Type 1} → statement M
 block-row-spec =

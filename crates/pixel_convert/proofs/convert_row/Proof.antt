@@ -1,6 +1,8 @@
 -- `pixel_convert::convert_row` meets its contract: the row of the source at hand. Assumes nothing.
 use mathlib.Core.Path.{sym, _∙_}
 use Rattle.formats.specs.Listed.{not-lane}
+use Rattle.yuv_sets.specs.Legal.{legal}
+use Rattle.convert_reply.specs.Passed.{legal-of, convert-yuv}
 use borrow.Author.Needs.{needs}
 use Rattle.pixel_convert.proofs.convert_row.Statement.{statement}
 use Rattle.pixel_convert.proofs.convert_row.Tie as tie
@@ -21,13 +23,14 @@ same-length-2 : tie.Need-same-length-2
 same-length-2 c = search needs
 
 returns : tie.Need-returns
-returns c = search needs
+returns c = c .before .before .before .before .block-row .ensures (c .before .before .before .before .before .before .before .before .before .before .before .before .args .numbers)
 
 texel-row-requires : tie.Need-texel-row-requires
 texel-row-requires c κs =
     let e = c .before in
     let s = e .before .before .before .before .before in
-    (s .pre .0, not-lane (s .args .src-format) (sym (e .before .is-lane-source .ensures) ∙ e .if1 .left), s .pre .1, s .pre .2)
+    let no = sym (e .before .is-lane-source .ensures) ∙ e .if1 .left in
+    (s .pre .0, not-lane (s .args .src-format) no, s .pre .1, s .pre .2, legal (s .args .numbers) (legal-of (s .args .numbers) (s .args .src-format) (convert-yuv (s .args .src-format) (s .args .dst-format) (s .pre .0 .pair) no) (s .pre .4)))
 
 same-length-3 : tie.Need-same-length-3
 same-length-3 c = search needs

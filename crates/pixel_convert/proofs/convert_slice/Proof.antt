@@ -6,18 +6,18 @@ use native.Mathlib.Omega.{arith}
 use lib.ListN.{length}
 use denote.Ref.{now}
 use Rattle.words.specs.Iterate.{iterate, iterate-zero, iterate-step}
-use Rattle.pixel_convert.specs.Regions.{rowWritten, sliceWritten}
-use Rattle.pixel_convert.specs.Rows.{RowFits}
+use Rattle.regions.specs.Regions.{rowWritten, sliceWritten}
+use Rattle.regions.specs.Rows.{RowFits}
 use borrow.Author.Needs.{needs}
 use Rattle.pixel_convert.proofs.convert_slice.Statement.{statement}
 use Rattle.pixel_convert.proofs.convert_slice.Tie as tie
 
 abbrev Inv-loop : tie.InvT-loop
-Inv-loop block₀ dst₀ dst-format to-size src src-format from-size region z height row₀ block dst row =
-    (dst ≡ iterate (rowWritten src src-format dst-format region z) row dst₀) × (length dst ≡ length dst₀) × (row ≤ height) × (length block ≡ length block₀)
+Inv-loop numbers block₀ dst₀ dst-format to-size src src-format from-size region z height row₀ block dst row =
+    (dst ≡ iterate (rowWritten numbers src src-format dst-format region z) row dst₀) × (length dst ≡ length dst₀) × (row ≤ height) × (length block ≡ length block₀)
 
 abbrev μ-loop : tie.MeasureT-loop
-μ-loop block₀ dst₀ dst-format to-size src src-format from-size region z height row₀ block dst row = height - row
+μ-loop numbers block₀ dst₀ dst-format to-size src src-format from-size region z height row₀ block dst row = height - row
 
 abbrev In : Type 0
 In = tie.In-loop Inv-loop μ-loop
@@ -41,6 +41,7 @@ convert-row-requires c κs =
       s .pre .1,
       s .pre .2,
       omega (arith, s .pre .3, l .inv .3),
+      s .pre .4,
     )
 
 add-row : tie.Need-add-row Inv-loop μ-loop
@@ -57,10 +58,10 @@ loop-again c =
     let g = start i .args in
     let l = i .before .loop in
     let call = c .before .before .before .before .convert-row in (
-      iterate-step (rowWritten (now (g .src)) (g .src-format) (g .dst-format) (g .region) (g .z)) (l .row) (now (g .dst)) (l .dst) _ (l .inv .0) (call .ensures),
-      call .kept .1 .0 ∙ l .inv .1,
+      iterate-step (rowWritten (g .numbers) (now (g .src)) (g .src-format) (g .dst-format) (g .region) (g .z)) (l .row) (now (g .dst)) (l .dst) _ (l .inv .0) (call .ensures),
+      call .kept .1 .1 .0 ∙ l .inv .1,
       omega (arith, i .loop-test .taken),
-      call .kept .0 ∙ l .inv .3,
+      call .kept .1 .0 ∙ l .inv .3,
     )
 
 same-length : tie.Need-same-length Inv-loop μ-loop

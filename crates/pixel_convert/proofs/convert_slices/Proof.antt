@@ -6,18 +6,18 @@ use native.Mathlib.Omega.{arith}
 use lib.ListN.{length}
 use denote.Ref.{now}
 use Rattle.words.specs.Iterate.{iterate, iterate-zero, iterate-step}
-use Rattle.pixel_convert.specs.Regions.{sliceWritten, regionWritten}
-use Rattle.pixel_convert.specs.Rows.{RowFits}
+use Rattle.regions.specs.Regions.{sliceWritten, regionWritten}
+use Rattle.regions.specs.Rows.{RowFits}
 use borrow.Author.Needs.{needs}
 use Rattle.pixel_convert.proofs.convert_slices.Statement.{statement}
 use Rattle.pixel_convert.proofs.convert_slices.Tie as tie
 
 abbrev Inv-loop : tie.InvT-loop
-Inv-loop dst₀ dst-format src src-format region to-size from-size depth block₀ z₀ dst block z =
-    (dst ≡ iterate (sliceWritten src src-format dst-format region) z dst₀) × (length dst ≡ length dst₀) × (z ≤ depth) × (length block ≡ 64)
+Inv-loop numbers dst₀ dst-format src src-format region to-size from-size depth block₀ z₀ dst block z =
+    (dst ≡ iterate (sliceWritten numbers src src-format dst-format region) z dst₀) × (length dst ≡ length dst₀) × (z ≤ depth) × (length block ≡ 64)
 
 abbrev μ-loop : tie.MeasureT-loop
-μ-loop dst₀ dst-format src src-format region to-size from-size depth block₀ z₀ dst block z = depth - z
+μ-loop numbers dst₀ dst-format src src-format region to-size from-size depth block₀ z₀ dst block z = depth - z
 
 abbrev In : Type 0
 In = tie.In-loop Inv-loop μ-loop
@@ -43,14 +43,17 @@ convert-slice-requires c κs =
     let s = start i in
     let g = s .args in
     let l = i .before .loop in (
-      (λ row h. subst (λ (m : ℕ). RowFits (length (now (g .src))) m (g .src-format) (g .dst-format) (g .region) (l .z) row) (sym (l .inv .1)) (s .pre (l .z) (i .loop-test .taken) row h)),
+      (λ row h. subst (λ (m : ℕ). RowFits (length (now (g .src))) m (g .src-format) (g .dst-format) (g .region) (l .z) row) (sym (l .inv .1)) (s .pre .0 (l .z) (i .loop-test .taken) row h)),
       i .before .before .bytes-per-texel2 .ensures,
       i .before .before .before .bytes-per-texel .ensures,
       omega (arith, l .inv .3),
+      s .pre .1,
     )
 
 add-z : tie.Need-add-z Inv-loop μ-loop
-add-z c = search needs
+add-z c =
+    let i = c .before .before .before .before .before .before in
+    omega (arith, i .loop-test .taken, start i .good .1 .1 .1 .1 .1 .0)
 
 loop-less : tie.Need-loop-less Inv-loop μ-loop
 loop-less c = search needs
@@ -61,10 +64,10 @@ loop-again c =
     let g = start i .args in
     let l = i .before .loop in
     let call = c .before .before .before .convert-slice in (
-      iterate-step (sliceWritten (now (g .src)) (g .src-format) (g .dst-format) (g .region)) (l .z) (now (g .dst)) (l .dst) _ (l .inv .0) (call .ensures),
-      call .kept .1 .0 ∙ l .inv .1,
+      iterate-step (sliceWritten (g .numbers) (now (g .src)) (g .src-format) (g .dst-format) (g .region)) (l .z) (now (g .dst)) (l .dst) _ (l .inv .0) (call .ensures),
+      call .kept .1 .1 .0 ∙ l .inv .1,
       omega (arith, i .loop-test .taken),
-      call .kept .0 ∙ l .inv .3,
+      call .kept .1 .0 ∙ l .inv .3,
     )
 
 same-length : tie.Need-same-length Inv-loop μ-loop

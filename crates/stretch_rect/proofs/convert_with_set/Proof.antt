@@ -13,7 +13,7 @@ use Rattle.words.specs.Integers.{clampTo}
 use Rattle.words.specs.Machine.{asks, gives, kept}
 use Rattle.words.specs.Ranges.{Within, small, plus, less, mag-small}
 use Rattle.stretch_rect.specs.declared.Rgb.{Rgb}
-use Rattle.stretch_rect.specs.declared.YuvSet.{YuvSet}
+use Rattle.yuv_sets.specs.declared.YuvSet.{YuvSet}
 use Rattle.stretch_rect.specs.Yuv.{lumaPart, chromaPart, nearestWhole, rgbOf, redRounded, greenRounded, blueRounded, redExact, greenExact, blueExact, RgbNear, setUnit, setSlack}
 use Rattle.stretch_rect.specs.Nearness.{set-near}
 use Rattle.stretch_rect.proofs.Sizes.{luma-range, chroma-range}

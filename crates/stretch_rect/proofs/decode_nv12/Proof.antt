@@ -17,27 +17,27 @@ nv12-uv-offset-requires c κs = search needs
 
 add-next : tie.Need-add-next
 unfolding vOffset nv12V
-add-next c = omega (arith, c .nv12-uv-offset .ensures, c .before .before .before .pre .v-read)
+add-next c = omega (arith, c .nv12-uv-offset .ensures, c .before .before .before .pre .1 .v-read)
 
-shared-slice-read-yuv-to-rgb8 : tie.Need-shared-slice-read-yuv-to-rgb8
-shared-slice-read-yuv-to-rgb8 c = search needs
+shared-slice-read-convert-with-set : tie.Need-shared-slice-read-convert-with-set
+shared-slice-read-convert-with-set c = search needs
 
-shared-slice-read-yuv-to-rgb8-2 : tie.Need-shared-slice-read-yuv-to-rgb8-2
+shared-slice-read-convert-with-set-2 : tie.Need-shared-slice-read-convert-with-set-2
 unfolding uOffset
-shared-slice-read-yuv-to-rgb8-2 c = omega (arith, c .before .before .nv12-uv-offset .ensures, c .before .before .before .before .before .pre .u-read)
+shared-slice-read-convert-with-set-2 c = omega (arith, c .before .before .nv12-uv-offset .ensures, c .before .before .before .before .before .pre .1 .u-read)
 
-shared-slice-read-yuv-to-rgb8-3 : tie.Need-shared-slice-read-yuv-to-rgb8-3
+shared-slice-read-convert-with-set-3 : tie.Need-shared-slice-read-convert-with-set-3
 unfolding vOffset nv12V
-shared-slice-read-yuv-to-rgb8-3 c = omega (arith, c .before .before .before .nv12-uv-offset .ensures, c .before .before .before .before .before .before .pre .v-read)
+shared-slice-read-convert-with-set-3 c = omega (arith, c .before .before .before .nv12-uv-offset .ensures, c .before .before .before .before .before .before .pre .1 .v-read)
 
-yuv-to-rgb8-requires : tie.Need-yuv-to-rgb8-requires
-yuv-to-rgb8-requires c κs = search needs
+convert-with-set-requires : tie.Need-convert-with-set-requires
+convert-with-set-requires c κs = search needs
 
 returns : tie.Need-returns
 unfolding planarRgb uOffset vOffset nv12V
 returns c =
     let pair = c .before .before .before .before .nv12-uv-offset .ensures in
-    rgb-at (c .before .before .before .before .before .before .before .args .frame .now) (c .yuv-to-rgb8 .ensures .0) (c .before .before .before .before .before .luma-offset .ensures) pair (ap (λ n. n + 1) pair)
+    rgb-at (c .before .before .before .before .before .before .before .args .numbers) (c .before .before .before .before .before .before .before .args .frame .now) (c .convert-with-set .ensures .0) (c .before .before .before .before .before .luma-offset .ensures) pair (ap (λ n. n + 1) pair)
 
 pub decode-nv12-spec : {M : Type 1} → statement M
 decode-nv12-spec =
@@ -46,8 +46,8 @@ decode-nv12-spec =
     luma-offset-requires
     nv12-uv-offset-requires
     add-next
-    shared-slice-read-yuv-to-rgb8
-    shared-slice-read-yuv-to-rgb8-2
-    shared-slice-read-yuv-to-rgb8-3
-    yuv-to-rgb8-requires
+    shared-slice-read-convert-with-set
+    shared-slice-read-convert-with-set-2
+    shared-slice-read-convert-with-set-3
+    convert-with-set-requires
     returns)

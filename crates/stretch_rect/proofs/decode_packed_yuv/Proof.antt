@@ -15,7 +15,7 @@ decode-yuy2-requires c κs = search needs
 returns : tie.Need-returns
 returns c =
     let s = c .before .before .before .args in
-    at-code (λ f. packedRgb f (s .macropixel .now) (s .odd)) (c .decode-yuy2 .ensures) (c .before .if1 .taken)
+    at-code (λ f. packedRgb (s .numbers) f (s .macropixel .now) (s .odd)) (c .decode-yuy2 .ensures) (c .before .if1 .taken)
 
 decode-uyvy-requires : tie.Need-decode-uyvy-requires
 decode-uyvy-requires c κs = search needs
@@ -24,8 +24,8 @@ returns-2 : tie.Need-returns-2
 unfolding isPackedYuv
 returns-2 c =
     let s = c .before .before .before .args in
-    let code : s .d3d-format ≡ UYVY = ⊎-elim (λ e. absurd (c .before .if1 .left e)) (λ e. e) (one-of-two (s .d3d-format) YUY2 UYVY (c .before .before .before .pre .0)) in
-    at-code (λ f. packedRgb f (s .macropixel .now) (s .odd)) (c .decode-uyvy .ensures) code
+    let code : s .d3d-format ≡ UYVY = ⊎-elim (λ e. absurd (c .before .if1 .left e)) (λ e. e) (one-of-two (s .d3d-format) YUY2 UYVY (c .before .before .before .pre .1)) in
+    at-code (λ f. packedRgb (s .numbers) f (s .macropixel .now) (s .odd)) (c .decode-uyvy .ensures) code
 
 pub decode-packed-yuv-spec : {M : Type 1} → statement M
 decode-packed-yuv-spec =

@@ -2,7 +2,7 @@
 use mathlib.Core.Path.{ap, _∙_}
 use lib.ListN.{getD}
 use borrow.Author.Needs.{needs}
-use Rattle.stretch_rect.specs.Yuv.{rgbOf, bt601}
+use Rattle.stretch_rect.specs.Yuv.{rgbOf}
 use Rattle.stretch_rect.specs.Samples.{packedRgb}
 use Rattle.stretch_rect.proofs.Places.{pick-at}
 use Rattle.stretch_rect.proofs.decode_yuy2.Statement.{statement}
@@ -17,21 +17,21 @@ shared-slice-read-luma-of-2 c = search needs
 luma-of-requires : tie.Need-luma-of-requires
 luma-of-requires c κs = search needs
 
-shared-slice-read-yuv-to-rgb8 : tie.Need-shared-slice-read-yuv-to-rgb8
-shared-slice-read-yuv-to-rgb8 c = search needs
+shared-slice-read-convert-with-set : tie.Need-shared-slice-read-convert-with-set
+shared-slice-read-convert-with-set c = search needs
 
-shared-slice-read-yuv-to-rgb8-2 : tie.Need-shared-slice-read-yuv-to-rgb8-2
-shared-slice-read-yuv-to-rgb8-2 c = search needs
+shared-slice-read-convert-with-set-2 : tie.Need-shared-slice-read-convert-with-set-2
+shared-slice-read-convert-with-set-2 c = search needs
 
-yuv-to-rgb8-requires : tie.Need-yuv-to-rgb8-requires
-yuv-to-rgb8-requires c κs = search needs
+convert-with-set-requires : tie.Need-convert-with-set-requires
+convert-with-set-requires c κs = search needs
 
 returns : tie.Need-returns
 unfolding packedRgb
 returns c =
     let s = c .before .before .before .before .before .before .before .args in
-    c .yuv-to-rgb8 .ensures .0
-    ∙ ap (λ y. rgbOf bt601 y (getD (s .macropixel .now) 1 0) (getD (s .macropixel .now) 3 0)) (c .before .before .before .luma-of .ensures ∙ pick-at (s .odd) (s .macropixel .now) 2 0)
+    c .convert-with-set .ensures .0
+    ∙ ap (λ y. rgbOf (s .numbers) y (getD (s .macropixel .now) 1 0) (getD (s .macropixel .now) 3 0)) (c .before .before .before .luma-of .ensures ∙ pick-at (s .odd) (s .macropixel .now) 2 0)
 
 pub decode-yuy2-spec : {M : Type 1} → statement M
 decode-yuy2-spec =
@@ -40,7 +40,7 @@ decode-yuy2-spec =
     shared-slice-read-luma-of
     shared-slice-read-luma-of-2
     luma-of-requires
-    shared-slice-read-yuv-to-rgb8
-    shared-slice-read-yuv-to-rgb8-2
-    yuv-to-rgb8-requires
+    shared-slice-read-convert-with-set
+    shared-slice-read-convert-with-set-2
+    convert-with-set-requires
     returns)

@@ -16,24 +16,24 @@ yv12-u-offset-requires c κs = search needs
 yv12-v-offset-requires : tie.Need-yv12-v-offset-requires
 yv12-v-offset-requires c κs = search needs
 
-shared-slice-read-yuv-to-rgb8 : tie.Need-shared-slice-read-yuv-to-rgb8
-shared-slice-read-yuv-to-rgb8 c = search needs
+shared-slice-read-convert-with-set : tie.Need-shared-slice-read-convert-with-set
+shared-slice-read-convert-with-set c = search needs
 
-shared-slice-read-yuv-to-rgb8-2 : tie.Need-shared-slice-read-yuv-to-rgb8-2
+shared-slice-read-convert-with-set-2 : tie.Need-shared-slice-read-convert-with-set-2
 unfolding uOffset
-shared-slice-read-yuv-to-rgb8-2 c = omega (arith, c .before .before .before .yv12-u-offset .ensures, c .before .before .before .before .before .before .pre .u-read)
+shared-slice-read-convert-with-set-2 c = omega (arith, c .before .before .before .yv12-u-offset .ensures, c .before .before .before .before .before .before .pre .1 .u-read)
 
-shared-slice-read-yuv-to-rgb8-3 : tie.Need-shared-slice-read-yuv-to-rgb8-3
+shared-slice-read-convert-with-set-3 : tie.Need-shared-slice-read-convert-with-set-3
 unfolding vOffset
-shared-slice-read-yuv-to-rgb8-3 c = omega (arith, c .before .before .before .yv12-v-offset .ensures, c .before .before .before .before .before .before .before .pre .v-read)
+shared-slice-read-convert-with-set-3 c = omega (arith, c .before .before .before .yv12-v-offset .ensures, c .before .before .before .before .before .before .before .pre .1 .v-read)
 
-yuv-to-rgb8-requires : tie.Need-yuv-to-rgb8-requires
-yuv-to-rgb8-requires c κs = search needs
+convert-with-set-requires : tie.Need-convert-with-set-requires
+convert-with-set-requires c κs = search needs
 
 returns : tie.Need-returns
 unfolding planarRgb uOffset vOffset
 returns c =
-    rgb-at (c .before .before .before .before .before .before .before .before .args .frame .now) (c .yuv-to-rgb8 .ensures .0)
+    rgb-at (c .before .before .before .before .before .before .before .before .args .numbers) (c .before .before .before .before .before .before .before .before .args .frame .now) (c .convert-with-set .ensures .0)
     (c .before .before .before .before .before .before .luma-offset .ensures) (c .before .before .before .before .before .yv12-u-offset .ensures) (c .before .before .before .before .yv12-v-offset .ensures)
 
 pub decode-yv12-spec : {M : Type 1} → statement M
@@ -43,8 +43,8 @@ decode-yv12-spec =
     luma-offset-requires
     yv12-u-offset-requires
     yv12-v-offset-requires
-    shared-slice-read-yuv-to-rgb8
-    shared-slice-read-yuv-to-rgb8-2
-    shared-slice-read-yuv-to-rgb8-3
-    yuv-to-rgb8-requires
+    shared-slice-read-convert-with-set
+    shared-slice-read-convert-with-set-2
+    shared-slice-read-convert-with-set-3
+    convert-with-set-requires
     returns)

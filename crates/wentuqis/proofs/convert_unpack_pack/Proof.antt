@@ -3,6 +3,7 @@ use mathlib.Core.Path.{sym, _∙_, subst}
 use Prim.Native.Nat.{ℕ, _<_}
 use denote.Ref.{now}
 use Rattle.depth_texture.specs.RoundTrip.{unpacked-refused, packed-refused}
+use Rattle.yuv_sets.specs.Sets.{bt601}
 use Rattle.wentuqis.specs.Viewer.{conversion-refused}
 use borrow.Author.Needs.{needs}
 use Rattle.wentuqis.proofs.convert_unpack_pack.Statement.{statement}
@@ -36,7 +37,7 @@ returns c =
     let p = c .before .before .wentuqis-pack in
     let g = c .before .before .before .before .before .before .before .before .before .before .before .before .before .before .before .before .before .before .before .before .before .before .before .args in
     let kept : 0 < u .result → _ = λ h. unpacked-refused (g .format) (g .planes) (now (g .packed)) (g .packed-pitch) (now (g .depth)) (now (g .stencil)) (subst (λ (n : ℕ). 0 < n) (u .ensures .0) h) in (
-      (λ h. v .ensures .1 .0 ∙ conversion-refused (now (g .src)) (now (g .dst)) (g .src-format) (g .dst-format) (g .region) (subst (λ (n : ℕ). 0 < n) (v .ensures .0) h)),
+      (λ h. v .ensures .1 .0 ∙ conversion-refused bt601 (now (g .src)) (now (g .dst)) (g .src-format) (g .dst-format) (g .region) (subst (λ (n : ℕ). 0 < n) (v .ensures .0) h)),
       (
         (λ h. (u .ensures .1 .0 .0 ∙ sym (kept h .0), u .ensures .1 .0 .1 ∙ sym (kept h .1))),
         (λ h. p .ensures .1 .0 ∙ sym (packed-refused (g .format) (g .planes) (now (g .out)) (g .out-pitch) _ _ (subst (λ (n : ℕ). 0 < n) (p .ensures .0) h))),
