@@ -2,9 +2,10 @@
  * libwentuqis.a for C99 and C++: pixel conversion, planar YUV layouts, colour fills and depth planes of Direct3D 9.
  * An altered version of parts of mtld3d (https://github.com/athei/mtld3d), see NOTICE.
  *
- * A uint32_t reply is 0 where the call was accepted, else the number of the refusal; where several apply, the lowest.
- * Refused, a call leaves every lent byte (of dst, depth, stencil, packed) as it was; where values are handed back
- * (bytes, length, layout) it puts zeros. No call keeps a pointer, or reads or writes outside what it was lent.
+ * A uint32_t reply is 0 where the call was accepted, else the number of the refusal; where several apply, the lowest,
+ * but that 15 comes between 2 and 3. Refused, a call leaves every lent byte (of dst, depth, stencil, packed) as it was;
+ * where values are handed back (bytes, length, layout) it puts zeros. No call keeps a pointer, or reads or writes
+ * outside what it was lent.
  *
  * What the caller owes, since no contract of the library can cover it:
  *   - No pointer is null, not even with length 0. A pointer that comes with length 0 is neither read nor written
@@ -96,7 +97,7 @@ enum {
 /* The replies. */
 enum {
     WENTUQIS_ACCEPTED = 0,
-    /* wentuqis_convert_region */
+    /* wentuqis_convert_region, wentuqis_convert_region_with_set */
     WENTUQIS_UNSUPPORTED_PAIR = 1,    /* wentuqis_can_convert is false for the two formats */
     WENTUQIS_PLANAR_SHAPE = 2,        /* planar source: depth not 1, source pitch 0, or slice pitch no multiple of it */
     WENTUQIS_SOURCE_OUTSIDE = 3,      /* a texel outside src or its planar layout, or a column or row past 32 bits */
@@ -114,11 +115,20 @@ enum {
     WENTUQIS_SHORT_DEPTH = 12,     /* depth shorter than depth pitch x height */
     WENTUQIS_SHORT_STENCIL = 13,   /* stencil shorter than stencil pitch x height; D24S8 only */
     /* wentuqis_planar_yuv_layout, wentuqis_planar_yuv_layout_from_pitch */
-    WENTUQIS_NO_PLANAR_LAYOUT = 14 /* neither YV12 nor NV12, or sizes that no layout has */
+    WENTUQIS_NO_PLANAR_LAYOUT = 14, /* neither YV12 nor NV12, or sizes that no layout has */
+    /* wentuqis_convert_region_with_set */
+    WENTUQIS_ILLEGAL_SET = 15 /* YUV source: a gain above 262143, an offset above 4194303, a centre not 255 or 256 */
 };
 
-/* Whether wentuqis_convert_region takes this pair: the twelve RGB formats into each other, the four YUV formats into
- * these, the two wide formats and the six from A2B10G10R10 to L16 into A8R8G8B8. */
+/* The named sets of YUV numbers: what follows depth in a call of wentuqis_convert_region_with_set, or stands in the
+ * braces of an array of seven. Each is a list of arguments, and no expression.
+ * BT.601 as wentuqis_convert_region and wentuqis_yuv_to_rgb8 have it: 1.164, 16.065, 1.596, 0.392, 0.813, 2.017 as the
+ * nearest 65536ths, centre 127.5. BT.709: 1.164, 16, 1.793, 0.213, 0.533, 2.112, centre 128. */
+#define WENTUQIS_BT601 76284, 1052836, 104595, 25690, 53281, 132186, 255
+#define WENTUQIS_BT709 76284, 1048576, 117506, 13959, 34931, 138412, 256
+
+/* Whether wentuqis_convert_region, by any set, takes this pair: the twelve RGB formats into each other, the four YUV
+ * formats into these, the two wide formats and the six from A2B10G10R10 to L16 into A8R8G8B8. */
 bool wentuqis_can_convert(uint32_t src_format, uint32_t dst_format);
 
 /* The pairs that UpdateSurface and UpdateTexture take:
@@ -128,12 +138,29 @@ bool wentuqis_can_convert_update(uint32_t src_format, uint32_t dst_format);
 /* Converts width x height x depth texels of src into dst by slice, row, column; the last of overlapping texels stands,
  * X is written as ones. In the six sources from A2B10G10R10 to L16 an unsigned code gives the nearest byte, a signed n
  * the nearest to 255n/127, and 0 if at or below zero; L16 fills red, green and blue; a channel that is lacking is 255.
+ * YUV goes by WENTUQIS_BT601.
  * Refusals 1 to 4; with width, height or depth 0 neither 3 nor 4, and nothing is written. */
 uint32_t wentuqis_convert_region(uint8_t *dst, size_t dst_len, uint32_t dst_format,
                                  const uint8_t *src, size_t src_len, uint32_t src_format,
                                  uint32_t src_x, uint32_t src_y, uint32_t dst_x, uint32_t dst_y,
                                  uint32_t width, uint32_t height, size_t src_pitch, size_t dst_pitch,
                                  size_t src_slice_pitch, size_t dst_slice_pitch, size_t depth);
+
+/* The same with YUV by these numbers. luma_gain and the four from v_to_red to u_to_blue are 0 to 262143, luma_offset is
+ * 0 to 4194303, all in 65536ths; chroma_centre is 255 or 256, in halves. With L = luma_gain * (Y - luma_offset), and
+ * u and v for U and V less the centre, red is L + v_to_red * v, green L - u_to_green * u - v_to_green * v, blue
+ * L + u_to_blue * u. Each product is rounded down to a 65536th and each sum to the nearest whole number, halves up, and
+ * clamped to 0..255: the byte lies within 1/2 + 1/16384 of the exact value, clamped.
+ * Refusals 1, 2, 15, 3 and 4, in this order; with width, height or depth 0 neither 3 nor 4, and nothing is written.
+ * With a source that is not YUV the numbers are not looked at: they may be any, and there is no 15. */
+uint32_t wentuqis_convert_region_with_set(uint8_t *dst, size_t dst_len, uint32_t dst_format,
+                                          const uint8_t *src, size_t src_len, uint32_t src_format,
+                                          uint32_t src_x, uint32_t src_y, uint32_t dst_x, uint32_t dst_y,
+                                          uint32_t width, uint32_t height, size_t src_pitch, size_t dst_pitch,
+                                          size_t src_slice_pitch, size_t dst_slice_pitch, size_t depth,
+                                          uint32_t luma_gain, uint32_t luma_offset, uint32_t v_to_red,
+                                          uint32_t u_to_green, uint32_t v_to_green, uint32_t u_to_blue,
+                                          uint32_t chroma_centre);
 
 /* One texel of a D3DCOLOR (0xAARRGGBB): the first *length of bytes, then zeros. X keeps the colour's alpha bits.
  * Refusal 5, with *length 0 and sixteen zeros. bytes and *length must be initialised memory. */

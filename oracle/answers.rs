@@ -1,6 +1,8 @@
 //! What the original answers to a call, for those who record its answers and those who compare. It
 //! does not decide where document 02 departs from it: paper.rs and stills.rs answer for the pairs
-//! that are added, and the C compiler for the binary16 codes that are others.
+//! that are added, paper.rs and sets.rs for sets other than BT601, and the C compiler for the
+//! binary16 codes that are others.
+#![allow(dead_code)]
 
 use original::{
     depth_texture::{PackedDepth, PlaneLayout},
@@ -11,7 +13,7 @@ use original::{
 use crate::{
     calls::{ConvertCall, DepthCall},
     common::{Planes, Region},
-    paper, stills,
+    paper, sets, stills,
 };
 
 /// Whether a pair of formats converts.
@@ -30,13 +32,26 @@ pub fn effort(region: &Region) -> u128 {
 /// looks at a texel, or no sum of its wraps and it `ends` soon.
 pub fn can_convert(call: &ConvertCall, reply: u32, ends: impl FnOnce() -> bool) -> bool {
     let fits = || paper::is_empty(&call.region) || call.conversion().sums_fit();
-    matches!(reply, 1 | 2) || fits() && ends()
+    matches!(reply, 1 | 2 | 15) || fits() && ends()
+}
+
+/// Whether document 02 answers to a conversion in its place.
+pub fn by_document(call: &ConvertCall) -> bool {
+    paper::is_added(call.src_format, call.dst_format) || has_other_set(call)
+}
+
+/// Whether the source is read by another set than the original's.
+fn has_other_set(call: &ConvertCall) -> bool {
+    call.set_in_use().is_some_and(|set| set != paper::BT601)
 }
 
 /// Whether it accepts, and its destination.
 pub fn convert(call: &ConvertCall) -> (bool, Vec<u8>) {
     if paper::is_added(call.src_format, call.dst_format) {
         return stills::convert(call);
+    }
+    if has_other_set(call) {
+        return sets::convert(call);
     }
     let mut dst = call.dst.clone();
     let accepted = pixel_convert::convert_region(

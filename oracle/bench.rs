@@ -5,12 +5,13 @@
 //! words. Among the conversions is every pair of RGB formats, a format to itself too. Each row of
 //! the table is one piece of work and each column a route that does it; `ours`, and its ratio to
 //! the original, stand where the port is linked, and `memcpy` copies as many bytes as the work
-//! writes. The original has no number where it refuses. A number is the median of rounds in which
-//! the routes take turns, so that a slow moment of the machine falls on all of them. Below the
-//! table stand the bars whose works were all measured: the greatest ratio that is wanted of ours
-//! to another route, the worst that was measured, and of which work. They do not change the exit
-//! status. With --markdown all this is also written to FILE, the RGB pairs as a table of sources
-//! and destinations; FILE keeps what it has from its first line `## ..` on.
+//! writes. The original has no number where it refuses; where ours goes by BT.709, its number is by
+//! BT.601. A number is the median of rounds in which the routes take turns, so that a slow moment
+//! of the machine falls on all of them. Below the table stand the bars whose works were all
+//! measured: the greatest ratio that is wanted of ours to another route, the worst that was
+//! measured, and of which work. They do not change the exit status. With --markdown all this is
+//! also written to FILE, the RGB pairs as a table of sources and destinations; FILE keeps what it
+//! has from its first line `## ..` on.
 
 mod common;
 mod paper;
@@ -27,13 +28,13 @@ use std::{
     time::{Duration, Instant},
 };
 
-use common::{XorShift, random_bytes, random_units, whole_frame};
+use common::{XorShift, YuvSet, random_bytes, random_units, whole_frame};
 use original::{
     convert::{f32_to_f16_bits, splat_pixel_pattern},
     depth_texture::{PackedDepth, PlaneLayout},
     pixel_convert::{ConvertRegion, convert_region},
 };
-use paper::{FORMATS, Format, Kind, named};
+use paper::{BT709, FORMATS, Format, Kind, named};
 
 const WIDTH: u32 = 4096;
 const HEIGHT: u32 = 2160;
@@ -78,6 +79,9 @@ const CONVERSIONS: [Pair; 12] = [
     ("V8U8", "A8R8G8B8"),
     ("Q8W8V8U8", "A8R8G8B8"),
 ];
+
+/// The conversions of a frame with a set of YUV numbers, BT.709; the original's is BT.601.
+const SET_CONVERSIONS: [Pair; 2] = [("YUY2", "A8R8G8B8"), ("NV12", "A8R8G8B8")];
 
 /// The conversions in short rows.
 const SHORT_CONVERSIONS: [Pair; 10] = [
@@ -283,6 +287,8 @@ impl Bar {
 enum Work {
     /// From a format to another, in rows of so many texels.
     Convert(&'static Format, &'static Format, u32),
+    /// The same of a frame with BT.709.
+    ConvertWithSet(&'static Format, &'static Format),
     /// Of a depth format's name and code.
     Unpack(&'static str, u32),
     Pack(&'static str, u32),
@@ -296,6 +302,9 @@ impl Work {
         match self {
             Self::Convert(from, to, WIDTH) => format!("{} to {}", from.name, to.name),
             Self::Convert(from, to, row) => format!("{} to {}, rows of {row}", from.name, to.name),
+            Self::ConvertWithSet(from, to) => {
+                format!("{} to {} BT.709, original BT.601", from.name, to.name)
+            }
             Self::Unpack(name, _) => format!("{name} unpack"),
             Self::Pack(name, _) => format!("{name} pack"),
             Self::Splat(length) => format!("splat of {length}"),
@@ -305,7 +314,8 @@ impl Work {
 
     fn measure(&self) -> Numbers {
         match *self {
-            Self::Convert(from, to, row) => convert(from, to, row),
+            Self::Convert(from, to, row) => convert(from, to, row, None),
+            Self::ConvertWithSet(from, to) => convert(from, to, WIDTH, Some(BT709)),
             Self::Unpack(_, code) => unpack(code),
             Self::Pack(_, code) => pack(code),
             Self::Splat(length) => splat(length),
@@ -332,11 +342,16 @@ impl Work {
 /// All that can be measured, in the order of the table.
 fn works() -> Vec<Work> {
     let convert = |(from, to), row| Work::Convert(named(from), named(to), row);
+    let with_set = |(from, to)| Work::ConvertWithSet(named(from), named(to));
     let mut works = Vec::new();
     for from in rgb_formats() {
         works.extend(rgb_formats().map(|to| Work::Convert(from, to, WIDTH)));
     }
     works.extend(CONVERSIONS.map(|pair| convert(pair, WIDTH)));
+    // Without the port the original would do the same work twice.
+    if cfg!(port) {
+        works.extend(SET_CONVERSIONS.map(with_set));
+    }
     works.extend(SHORT_CONVERSIONS.map(|pair| convert(pair, SHORT)));
     for (name, code) in DEPTHS {
         works.extend([Work::Unpack(name, code), Work::Pack(name, code)]);
@@ -413,8 +428,10 @@ fn frame(format: &Format) -> Vec<u8> {
     }
 }
 
-/// Converts a frame's texels that lie in rows of `row`.
-fn convert(from: &Format, to: &Format, row: u32) -> Numbers {
+/// Converts a frame's texels that lie in rows of `row`, ours with a set of YUV numbers if one is
+/// given.
+#[cfg_attr(not(port), allow(unused_variables))]
+fn convert(from: &Format, to: &Format, row: u32, set: Option<YuvSet>) -> Numbers {
     let src = &frame(from);
     let width = row as usize;
     let height = (TEXELS / width) as u32;
@@ -434,10 +451,12 @@ fn convert(from: &Format, to: &Format, row: u32) -> Numbers {
         let mut dst = vec![0; length];
         routes.ours(move || {
             let (dst, src) = (black_box(&mut dst), black_box(src));
-            assert_eq!(
-                port::convert_region(dst, to.code, src, from.code, &region),
-                0
-            );
+            let (to, from) = (to.code, from.code);
+            let reply = match &set {
+                Some(set) => port::convert_region_with_set(dst, to, src, from, &region, set),
+                None => port::convert_region(dst, to, src, from, &region),
+            };
+            assert_eq!(reply, 0);
         })
     };
     routes.measure(length)

@@ -163,7 +163,7 @@ missing() {
 
 common=("$here/common.rs" "$crate/shapes.rs" "$build/liboriginal.rlib")
 program worked_table "${common[@]}" --
-recorded=("${common[@]}" "$here"/{answers,calls,paper,record_calls,stills}.rs)
+recorded=("${common[@]}" "$here"/{answers,calls,paper,record_calls,sets,stills}.rs)
 
 # A `bench` over another archive, or over none, is not kept.
 common+=("$here/paper.rs")
@@ -193,7 +193,7 @@ fi
 program record "${recorded[@]}" "$float16" -- "${by_compiler[@]}"
 
 if [[ -z $missing ]]; then
-    common+=("$here"/{answers,calls,checks,findings,stills}.rs "$float16")
+    common+=("$here"/{answers,calls,checks,findings,sets,stills}.rs "$float16")
     for name in compare fuzz; do
         program "$name" "${common[@]}" "$here"/parts/*.rs -- \
             --check-cfg 'cfg(port)' "${port[@]}" -C overflow-checks=on "${by_compiler[@]}"

@@ -1,13 +1,14 @@
 //! Calls for the comparison and the fuzzer: accepted conversions and depth transfers with random
-//! sizes, pitches and bytes, and ways to damage them.
+//! sizes, pitches and bytes, and ways to damage them; sets of YUV numbers, legal and not.
 #![allow(dead_code)]
 
 use crate::{
-    common::{Planes, Region, XorShift, random_bytes, random_units},
+    common::{Planes, Region, XorShift, YuvSet, random_bytes, random_units, whole_frame},
     paper::{self, Conversion, FORMATS, Format, Kind, Transfer},
 };
 
-/// A conversion with its buffers.
+/// A conversion with its buffers, by the call that takes a set of YUV numbers or by the one that
+/// takes none.
 #[derive(Clone)]
 pub struct ConvertCall {
     pub dst_format: u32,
@@ -15,6 +16,7 @@ pub struct ConvertCall {
     pub src_format: u32,
     pub src: Vec<u8>,
     pub region: Region,
+    pub set: Option<YuvSet>,
 }
 
 /// A depth transfer with its buffers, to unpack or to pack.
@@ -28,13 +30,22 @@ pub struct DepthCall {
     pub stencil: Vec<u8>,
 }
 
+/// A source and a destination.
+pub type Pair = (&'static Format, &'static Format);
+
 /// The pairs of formats that convert, source first.
-pub fn pairs() -> Vec<(&'static Format, &'static Format)> {
+pub fn pairs() -> Vec<Pair> {
     FORMATS
         .iter()
         .flat_map(|from| FORMATS.iter().map(move |to| (from, to)))
         .filter(|(from, to)| paper::can_convert(from.code, to.code))
         .collect()
+}
+
+/// Those of them whose source is YUV.
+pub fn yuv_pairs() -> Vec<Pair> {
+    let is_yuv = |(from, _): &Pair| paper::is_yuv(from.code);
+    pairs().into_iter().filter(is_yuv).collect()
 }
 
 /// The least bytes of a row of `texels`.
@@ -82,6 +93,34 @@ impl ConvertCall {
             src_format: self.src_format,
             src_length: self.src.len(),
             region: &self.region,
+            set: self.set.unwrap_or(paper::BT601),
+        }
+    }
+
+    /// The name of the call that takes it.
+    pub const fn name(&self) -> &'static str {
+        match self.set {
+            Some(_) => "convert_region_with_set",
+            None => "convert_region",
+        }
+    }
+
+    /// The set by which the source is read, if it is YUV and the call takes one.
+    pub fn set_in_use(&self) -> Option<YuvSet> {
+        self.set.filter(|_| paper::is_yuv(self.src_format))
+    }
+
+    /// A frame of these source bytes, `width` texels a row, without padding.
+    pub fn frame(from: &Format, to: &Format, width: usize, src: Vec<u8>) -> Self {
+        let src_pitch = row_bytes(from, width);
+        let (dst_pitch, height) = (width * to.bytes, src.len() / src_pitch);
+        Self {
+            dst_format: to.code,
+            dst: vec![0x5a; dst_pitch * height],
+            src_format: from.code,
+            src,
+            region: whole_frame(width as u32, height as u32, src_pitch, dst_pitch),
+            set: None,
         }
     }
 
@@ -93,6 +132,7 @@ impl ConvertCall {
             src_format: from.code,
             src: Vec::new(),
             region,
+            set: None,
         };
         if let Some((src, dst)) = call.conversion().least_lengths() {
             call.src = texel_bytes(random, from, capped(src));
@@ -133,7 +173,7 @@ impl ConvertCall {
     }
 
     /// An accepted conversion of a small random extent between two random formats.
-    pub fn any(random: &mut XorShift, pairs: &[(&Format, &Format)]) -> Self {
+    pub fn any(random: &mut XorShift, pairs: &[Pair]) -> Self {
         let (from, to) = random.pick(pairs);
         let width = 1 + random.below(9) as u32;
         let height = 1 + random.below(4) as u32;
@@ -162,6 +202,87 @@ impl ConvertCall {
             _ => change64(&mut region.dst_slice_pitch, random),
         }
     }
+}
+
+/// Changes of an accepted conversion, after which it has no texel or, with some sources, a refusal;
+/// the first changes nothing.
+pub const CHANGES: [fn(&mut ConvertCall); 10] = [
+    |_| (),
+    |call| call.region.width = 0,
+    |call| call.region.height = 0,
+    |call| call.region.depth = 0,
+    |call| call.region.depth += 1,
+    |call| call.region.src_pitch = 0,
+    |call| call.region.src_slice_pitch += 1,
+    |call| call.dst_format = paper::NV12,
+    |call| call.src.truncate(call.src.len() - 1),
+    |call| call.dst.truncate(call.dst.len() - 1),
+];
+
+/// A legal set whose numbers are those of a named one, ends of their ranges, and any inside.
+pub fn legal_set(random: &mut XorShift) -> YuvSet {
+    let mut numbers = paper::numbers(&random.pick(&NAMED));
+    for (number, [least, most]) in numbers.iter_mut().zip(paper::LEGAL) {
+        match random.below(4) {
+            0 => *number = random.pick(&[least, most]),
+            1 => (),
+            _ => *number = least + random.below(u64::from(most - least) + 1) as u32,
+        }
+    }
+    paper::set(numbers)
+}
+
+/// The sets that have names.
+const NAMED: [YuvSet; 2] = [paper::BT601, paper::BT709];
+
+/// A named set or another legal one, and once in three times up to three of its numbers changed.
+pub fn any_set(random: &mut XorShift) -> YuvSet {
+    let set = if random.one_in(2) {
+        random.pick(&NAMED)
+    } else {
+        legal_set(random)
+    };
+    let mut numbers = paper::numbers(&set);
+    if random.one_in(3) {
+        for _ in 0..1 + random.below(3) {
+            let place = random.below(7) as usize;
+            let [least, most] = paper::LEGAL[place];
+            numbers[place] = match random.below(4) {
+                0 => least.wrapping_sub(1),
+                1 => most + 1,
+                _ => any32(random),
+            };
+        }
+    }
+    paper::set(numbers)
+}
+
+/// Legal sets with numbers at the ends of their ranges: each number at each end, then all of them.
+pub fn sets_at_ends(random: &mut XorShift) -> Vec<YuvSet> {
+    let mut sets = sets_with(random, |range| range.to_vec());
+    sets.extend([0, 1].map(|end| paper::set(paper::LEGAL.map(|range| range[end]))));
+    sets
+}
+
+/// Sets with one illegal number: for each place those next to its range, and the greatest of all.
+pub fn sets_outside(random: &mut XorShift) -> Vec<YuvSet> {
+    sets_with(random, |[least, most]| {
+        let below = least.checked_sub(1).into_iter();
+        below.chain([most + 1, u32::MAX]).collect()
+    })
+}
+
+/// Legal sets, one number of each replaced: in every place by each that `others` has for its range.
+fn sets_with(random: &mut XorShift, others: fn([u32; 2]) -> Vec<u32>) -> Vec<YuvSet> {
+    let mut sets = Vec::new();
+    for (place, range) in paper::LEGAL.into_iter().enumerate() {
+        for other in others(range) {
+            let mut numbers = paper::numbers(&legal_set(random));
+            numbers[place] = other;
+            sets.push(paper::set(numbers));
+        }
+    }
+    sets
 }
 
 /// The pitch of a source slice of at least `rows` rows: of a planar source its luma rows, which

@@ -1,8 +1,8 @@
 //! One check for each call of the port: the reply against the documents (paper.rs); acceptance and
-//! every accepted byte against the original, or stills.rs for the pairs that document 02 adds
-//! (answers.rs), and the binary16 code of every number, not of a NaN, against the C compiler's; that
-//! a refusal leaves every lent byte, that what is only read stays, and that nothing beside a lent
-//! buffer is written.
+//! every accepted byte against the original, or stills.rs for the pairs that document 02 adds, or
+//! sets.rs for its sets of YUV numbers (answers.rs), with BT601 against both; the binary16 code of
+//! every number, not of a NaN, against the C compiler's; that a refusal leaves every lent byte,
+//! that what is only read stays, and that nothing beside a lent buffer is written.
 //!
 //! The original is not asked where its 32-bit coordinates or 64-bit offsets would wrap, of plane
 //! layouts with refusal 10 (docs/DIFFERENCES.md), and where it would not end soon.
@@ -26,10 +26,10 @@ use original::{convert, pixel_convert, stretch_rect};
 use crate::{
     answers,
     calls::{ConvertCall, DepthCall},
-    common::whole_frame,
+    common::YuvSet,
     findings::{Findings, Lent, bytes_text, format_text},
-    paper::{self, Format, Layout},
-    port, stills,
+    paper::{self, Layout},
+    port, sets, stills,
 };
 
 /// Calls that pass over more texels than this are made only where a refusal or an empty region
@@ -81,12 +81,21 @@ fn ask<T>(asked: bool, call: impl FnOnce() -> T) -> Answer<T> {
     catch_unwind(AssertUnwindSafe(call)).map_or(Answer::Panicked, Answer::Gave)
 }
 
-/// Who answers for a pair of formats.
-fn whose(src_format: u32, dst_format: u32) -> &'static str {
-    if paper::is_added(src_format, dst_format) {
+/// Who answers: document 02 or the original.
+const fn whose(by_document: bool) -> &'static str {
+    if by_document {
         "document 02's"
     } else {
         "the original's"
+    }
+}
+
+/// The port's reply to a conversion that is lent these buffers.
+fn port_reply(call: &ConvertCall, dst: &mut [u8], src: &[u8]) -> u32 {
+    let (to, from, region) = (call.dst_format, call.src_format, &call.region);
+    match &call.set {
+        Some(set) => port::convert_region_with_set(dst, to, src, from, region, set),
+        None => port::convert_region(dst, to, src, from, region),
     }
 }
 
@@ -174,7 +183,8 @@ impl Checks {
             paper::can_convert(src, dst),
             paper::can_convert_update(src, dst),
         ];
-        findings.equal("replies", ours, whose(src, dst), answers);
+        let whose = whose(paper::is_added(src, dst));
+        findings.equal("replies", ours, whose, answers);
         findings.equal("replies", ours, "the documents'", paper);
         self.count("can_convert", 0, 1);
         self.count("can_convert_update", 0, 1);
@@ -193,13 +203,7 @@ impl Checks {
         if many {
             *watched() = Some((Instant::now(), call.text()));
         }
-        let reply = port::convert_region(
-            dst.lend(),
-            call.dst_format,
-            src.content(),
-            call.src_format,
-            &call.region,
-        );
+        let reply = port_reply(call, dst.lend(), src.content());
         if many {
             *watched() = None;
         }
@@ -213,39 +217,50 @@ impl Checks {
         let stops = || !many || call.conversion().stops_among(LOOKED_AT);
         let asked = answers::can_convert(call, paper, stops);
         let answer = ask(asked, || answers::convert(call));
-        let whose = whose(call.src_format, call.dst_format);
-        if let Some((accepted, bytes)) = self.answer(answer, &mut findings) {
-            findings.equal("accepted", reply == 0, whose, accepted);
-            if reply == 0 && accepted {
-                let at = findings.same("dst", &dst, whose, &bytes, &call.dst);
-                findings.0.extend(at.and_then(|at| call.texel_text(at)));
-            }
+        let by_document = answers::by_document(call);
+        if let Some(answer) = self.answer(answer, &mut findings) {
+            findings.converted(call, reply, &dst, whose(by_document), &answer);
         }
-        self.count("convert_region", reply, 1);
+        if asked && !by_document && call.set_in_use().is_some() {
+            findings.converted(call, reply, &dst, whose(true), &sets::convert(call));
+        }
+        self.count(call.name(), reply, 1);
         self.found(findings, || call.text());
     }
 
-    /// Converts texels of a source that document 02 adds, in one row, and holds every byte to 1/2
-    /// of what its channel means.
-    pub fn near(&mut self, from: &Format, src: &[u8]) {
-        let texels = src.len() / from.bytes;
-        let mut dst = vec![0; 4 * texels];
-        let region = whole_frame(texels as u32, 1, src.len(), dst.len());
-        let reply = port::convert_region(&mut dst, paper::A8R8G8B8, src, from.code, &region);
+    /// Converts a frame without padding to A8R8G8B8, and holds every byte to document 02's limit:
+    /// of YUY2 with a legal set to 1/2 + 1/16384 of the value that the set's own numbers define, of
+    /// a source that it adds to 1/2 of what the channel means.
+    pub fn near(&mut self, call: &ConvertCall) {
+        let mut dst = call.dst.clone();
+        let reply = port_reply(call, &mut dst, &call.src);
         let mut findings = Findings::default();
         findings.reply(reply, 0);
-        let mut both = src.chunks_exact(from.bytes).zip(dst.chunks_exact(4));
-        if let Some((texel, bytes)) = both.find(|(texel, bytes)| !stills::near(from, texel, bytes))
-        {
+        let from = paper::find(call.src_format).expect("a source");
+        let far = match &call.set {
+            Some(set) => first_far([4, 8], &call.src, &dst, |macropixel, texels| {
+                sets::near(set, macropixel, texels)
+            }),
+            None => first_far([from.bytes, 4], &call.src, &dst, |texel, bytes| {
+                stills::near(from, texel, bytes)
+            }),
+        };
+        if let Some((texel, bytes)) = far {
             let (texel, bytes) = (bytes_text(texel), bytes_text(bytes));
-            let line = format!("further than 1/2: a texel of {texel} gives {bytes}");
+            let line = format!("past the limit: {texel} give {bytes}");
             findings.0.push(line);
         }
-        self.count("convert_region", reply, 1);
+        self.count(call.name(), reply, 1);
         self.unasked += 1;
-        self.found(findings, || {
-            format!("convert_region: a row of {}", from.name)
-        });
+        self.found(findings, || call.text());
+    }
+
+    /// Holds the numbers of the crate's named sets against the documents'.
+    pub fn named_sets(&mut self) {
+        let mut findings = Findings::default();
+        let ours = [YuvSet::BT601, YuvSet::BT709];
+        findings.equal("sets", ours, "the documents'", [paper::BT601, paper::BT709]);
+        self.found(findings, || "YuvSet::BT601, YuvSet::BT709".to_string());
     }
 
     pub fn unpack(&mut self, call: &DepthCall) {
@@ -515,6 +530,18 @@ impl Checks {
         self.first.extend(other.first);
         self.first.truncate(KEPT);
     }
+}
+
+/// The first piece of the source that is not near to its piece of the destination, and that piece;
+/// a piece has so many bytes of either.
+fn first_far<'a>(
+    [from, to]: [usize; 2],
+    src: &'a [u8],
+    dst: &'a [u8],
+    near: impl Fn(&[u8], &[u8]) -> bool,
+) -> Option<(&'a [u8], &'a [u8])> {
+    let mut both = src.chunks_exact(from).zip(dst.chunks_exact(to));
+    both.find(|(texel, bytes)| !near(texel, bytes))
 }
 
 /// Does the works 0 up to `count` on as many threads as there are cores.

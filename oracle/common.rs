@@ -1,6 +1,6 @@
-//! Shared by the programs of this folder, each of which uses a part: the random numbers, regions
-//! and planes (plain numbers, by the declarations of the crate in rust/), conversions of one texel
-//! by the original, frames of random texels.
+//! Shared by the programs of this folder, each of which uses a part: the random numbers, regions,
+//! sets and planes (plain numbers, by the declarations of the crate in rust/), conversions of one
+//! texel by the original, frames of random texels.
 #![allow(dead_code)]
 
 #[path = "../rust/src/shapes.rs"]
@@ -10,6 +10,9 @@ use original::pixel_convert::{ConvertRegion, convert_region};
 
 /// A region to convert, of any numbers.
 pub type Region = shapes::ConvertRegion;
+
+/// A set of YUV numbers, of any numbers.
+pub type YuvSet = shapes::YuvSet;
 
 /// The layout of a depth and a stencil plane, of any numbers.
 pub type Planes = shapes::PlaneLayout;

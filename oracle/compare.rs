@@ -16,21 +16,24 @@ mod parts {
     pub mod fills;
     pub mod numbers;
     pub mod planar;
+    pub mod with_set;
 }
 mod port;
+mod sets;
 mod stills;
 
 use std::{process::ExitCode, thread, time::Instant};
 
 use checks::Checks;
 use common::XorShift;
-use parts::{convert, depth, fills, numbers, planar};
+use parts::{convert, depth, fills, numbers, planar, with_set};
 
 /// A name, and what runs; the flag asks for the exhaustive forms.
 type Part = (&'static str, fn(&mut Checks, &mut XorShift, bool));
 
-const PARTS: [Part; 7] = [
+const PARTS: [Part; 8] = [
     ("convert", convert::run),
+    ("sets", with_set::run),
     ("depth", depth::run),
     ("yuv", numbers::yuv),
     ("planar", planar::run),

@@ -107,6 +107,22 @@ impl Findings {
         Some(at)
     }
 
+    /// Whether a conversion is accepted and, if it is, its destination.
+    pub fn converted(
+        &mut self,
+        call: &ConvertCall,
+        reply: u32,
+        dst: &Lent<u8>,
+        whose: &str,
+        (accepted, bytes): &(bool, Vec<u8>),
+    ) {
+        self.equal("accepted", reply == 0, whose, *accepted);
+        if reply == 0 && *accepted {
+            let at = self.same("dst", dst, whose, bytes, &call.dst);
+            self.0.extend(at.and_then(|at| call.texel_text(at)));
+        }
+    }
+
     pub fn guards<T: Copy + PartialEq + From<u8>>(&mut self, name: &str, lent: &Lent<T>) {
         if !lent.guards_kept() {
             self.0.push(format!("bytes beside {name} were written"));
@@ -145,8 +161,10 @@ impl ConvertCall {
     pub fn text(&self) -> String {
         let (from, to) = (format_text(self.src_format), format_text(self.dst_format));
         let (src, dst) = (bytes_text(&self.src), bytes_text(&self.dst));
-        let region = self.region;
-        format!("convert_region: {from} to {to}, {region:?}\n    src of {src}\n    dst of {dst}")
+        let (name, region) = (self.name(), self.region);
+        let set = self.set.map(|set| format!("\n    {set:?}"));
+        let set = set.unwrap_or_default();
+        format!("{name}: {from} to {to}, {region:?}{set}\n    src of {src}\n    dst of {dst}")
     }
 
     /// The source bytes of the texel that has byte `at` of the destination, where the source is

@@ -1,9 +1,9 @@
 //! Usage: fuzz SECONDS [SEED]
 //! Makes calls of the port for so many seconds: damaged copies of accepted ones, each with up to
-//! three lengths, pitches, codes or sizes changed, and checks each as `compare` does. Every lent
-//! buffer is a heap block of its own and no byte longer than lent, so that under valgrind an
-//! access past it is seen. Without SEED the clock gives one. The exit status is 1 if anything
-//! differs.
+//! three lengths, pitches, codes or sizes changed, and up to three numbers of a set of YUV numbers,
+//! and checks each as `compare` does. Every lent buffer is a heap block of its own and no byte
+//! longer than lent, so that under valgrind an access past it is seen. Without SEED the clock gives
+//! one. The exit status is 1 if anything differs.
 
 mod answers;
 mod calls;
@@ -12,6 +12,7 @@ mod common;
 mod findings;
 mod paper;
 mod port;
+mod sets;
 mod stills;
 
 use std::{
@@ -19,10 +20,13 @@ use std::{
     time::{Duration, Instant, SystemTime},
 };
 
-use calls::{ConvertCall, DepthCall, any_code, any32, any64, change32, pairs, resize};
+use calls::{
+    ConvertCall, DepthCall, Pair, any_code, any_set, any32, any64, change32, pairs, resize,
+    yuv_pairs,
+};
 use checks::Checks;
 use common::{XorShift, random_bytes};
-use paper::{Format, NV12, YV12};
+use paper::{NV12, YV12};
 
 fn main() -> ExitCode {
     let words: Vec<String> = std::env::args().skip(1).collect();
@@ -33,10 +37,10 @@ fn main() -> ExitCode {
     println!("seed 0x{seed:016X}");
     checks::watch();
     let (mut random, mut checks) = (XorShift::from_seed(seed), Checks::new(false));
-    let (pairs, start) = (pairs(), Instant::now());
+    let (pairs, yuv_pairs, start) = (pairs(), yuv_pairs(), Instant::now());
     while start.elapsed() < time {
         for _ in 0..64 {
-            call(&mut checks, &mut random, &pairs);
+            call(&mut checks, &mut random, [&pairs, &yuv_pairs]);
         }
     }
     print(&checks);
@@ -62,23 +66,31 @@ fn clock() -> u64 {
 }
 
 /// One call, or a few of the shortest ones.
-fn call(checks: &mut Checks, random: &mut XorShift, pairs: &[(&Format, &Format)]) {
-    match random.below(12) {
-        0..5 => {
-            let mut call = ConvertCall::any(random, pairs);
-            for _ in 0..random.below(4) {
-                call.damage(random);
-            }
+fn call(checks: &mut Checks, random: &mut XorShift, [pairs, yuv_pairs]: [&[Pair]; 2]) {
+    match random.below(15) {
+        0..5 => checks.convert_region(&conversion(random, pairs)),
+        5..8 => {
+            let pairs = random.pick(&[pairs, yuv_pairs]);
+            let mut call = conversion(random, pairs);
+            call.set = Some(any_set(random));
             checks.convert_region(&call);
         }
-        5 => checks.unpack(&transfer(random)),
-        6 => checks.pack(&transfer(random)),
-        7 => plane_layout(checks, random),
-        8 => planar_layouts(checks, random),
-        9 => fill(checks, random),
-        10 => splat(checks, random),
+        8 => checks.unpack(&transfer(random)),
+        9 => checks.pack(&transfer(random)),
+        10 => plane_layout(checks, random),
+        11 => planar_layouts(checks, random),
+        12 => fill(checks, random),
+        13 => splat(checks, random),
         _ => numbers(checks, random),
     }
+}
+
+fn conversion(random: &mut XorShift, pairs: &[Pair]) -> ConvertCall {
+    let mut call = ConvertCall::any(random, pairs);
+    for _ in 0..random.below(4) {
+        call.damage(random);
+    }
+    call
 }
 
 fn transfer(random: &mut XorShift) -> DepthCall {

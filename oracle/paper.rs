@@ -1,13 +1,14 @@
-//! The reply to every call by document 01, with the sources that request 1 of document 02 adds: 0
-//! where it accepts, else the number of the refusal; and the interval in which request 3 departs
-//! from the original. Read from the documents alone, to judge the port by: neither the original's
-//! code nor the port's stands behind it, but for the older formats, whose lists document 01 leaves
-//! to the original, and the structs in which the numbers of a region and of two planes stand.
-//! Numbers have 128 bits, so that products of 64-bit numbers are true ones; a sum that would not
-//! fit stays at the greatest number, which lies past every buffer.
+//! The reply to every call by document 01, with the sources that request 1 of document 02 adds and
+//! the sets of YUV numbers of request 4: 0 where it accepts, else the number of the refusal; where
+//! the bytes of a YUV texel lie; and the interval in which request 3 departs from the original.
+//! Read from the documents alone, to judge the port by: neither the original's code nor the port's
+//! stands behind it, but for the older formats, whose lists document 01 leaves to the original, and
+//! the structs in which the numbers of a region, of a set and of two planes stand. Numbers have 128
+//! bits, so that products of 64-bit numbers are true ones; a sum that would not fit stays at the
+//! greatest number, which lies past every buffer.
 #![allow(dead_code)]
 
-use crate::common::{Planes, Region};
+use crate::common::{Planes, Region, YuvSet};
 
 /// Whether the bits are a binary32 number in the interval of request 3 of document 02, in which it
 /// and not the original governs binary16: a magnitude above 2^-25 and below 2^-24.
@@ -131,12 +132,89 @@ pub fn is_added(src_format: u32, dst_format: u32) -> bool {
     kind(src_format) == Some(Kind::Still) && can_convert(src_format, dst_format)
 }
 
+/// Whether a source of this code goes by a set of YUV numbers.
+pub fn is_yuv(code: u32) -> bool {
+    matches!(kind(code), Some(Kind::PackedYuv | Kind::PlanarYuv))
+}
+
+/// The numbers of a set, in the order of the call that takes one: luma gain, luma offset, V to red,
+/// U to green, V to green, U to blue, chroma centre.
+pub fn numbers(set: &YuvSet) -> [u32; 7] {
+    [
+        set.luma_gain,
+        set.luma_offset,
+        set.v_to_red,
+        set.u_to_green,
+        set.v_to_green,
+        set.u_to_blue,
+        set.chroma_centre,
+    ]
+}
+
+/// The set of these numbers, in the same order.
+pub const fn set(numbers: [u32; 7]) -> YuvSet {
+    let [
+        luma_gain,
+        luma_offset,
+        v_to_red,
+        u_to_green,
+        v_to_green,
+        u_to_blue,
+        chroma_centre,
+    ] = numbers;
+    YuvSet {
+        luma_gain,
+        luma_offset,
+        v_to_red,
+        u_to_green,
+        v_to_green,
+        u_to_blue,
+        chroma_centre,
+    }
+}
+
+/// The least and the greatest gain, in 65536ths.
+const GAINS: [u32; 2] = [0, 262_143];
+
+/// The same of a luma offset, in 65536ths.
+const OFFSETS: [u32; 2] = [0, 4_194_303];
+
+/// The same of a chroma centre, in halves.
+const CENTRES: [u32; 2] = [255, 256];
+
+/// The least and the greatest legal number in each place of a set.
+pub const LEGAL: [[u32; 2]; 7] = [GAINS, OFFSETS, GAINS, GAINS, GAINS, GAINS, CENTRES];
+
+pub fn is_legal(set: &YuvSet) -> bool {
+    let mut both = numbers(set).into_iter().zip(LEGAL);
+    both.all(|(number, [least, most])| (least..=most).contains(&number))
+}
+
+/// The set that the original has always used, and so the one of a call that takes none.
+pub const BT601: YuvSet = set([76_284, 1_052_836, 104_595, 25_690, 53_281, 132_186, 255]);
+
+/// The second set of document 02, by the decimals that stand there.
+pub const BT709: YuvSet = set([
+    nearest16_16(1164),
+    nearest16_16(16_000),
+    nearest16_16(1793),
+    nearest16_16(213),
+    nearest16_16(533),
+    nearest16_16(2112),
+    256,
+]);
+
+/// The number of 65536ths nearest to so many thousandths: no tie, since 500 is no multiple of 8.
+const fn nearest16_16(thousandths: u32) -> u32 {
+    (thousandths * 65536 + 500) / 1000
+}
+
 /// A texel of a region, counted from the region's first one.
 #[derive(Clone, Copy)]
-struct Texel {
-    slice: u128,
-    row: u128,
-    column: u128,
+pub struct Texel {
+    pub slice: u128,
+    pub row: u128,
+    pub column: u128,
 }
 
 /// Up to this many texels a region is decided texel by texel.
@@ -198,6 +276,29 @@ fn source_end(region: &Region, format: &Format, texel: Texel) -> Option<u128> {
 
 /// One past the last of a planar texel's three bytes.
 fn planar_end(region: &Region, code: u32, x: u128, y: u128) -> Option<u128> {
+    let last = planar_sample(region, code, x, y)?.into_iter().max()?;
+    Some(last + 1)
+}
+
+/// Where the luma, the U and the V of a YUV texel lie in the source.
+pub fn sample(region: &Region, format: &Format, texel: Texel) -> Option<[u128; 3]> {
+    let (x, y) = coordinates(region.src_x, region.src_y, texel)?;
+    if format.kind == Kind::PlanarYuv {
+        return planar_sample(region, format.code, x, y);
+    }
+    let second = 2 * (x % 2);
+    let in_macropixel = match format.name {
+        "YUY2" => [second, 1, 3],
+        "UYVY" => [1 + second, 0, 2],
+        _ => return None,
+    };
+    let (slice_pitch, pitch) = (region.src_slice_pitch, region.src_pitch);
+    let start = linear(texel.slice, slice_pitch, y, pitch, x / 2 * 4);
+    Some(in_macropixel.map(|it| start.saturating_add(it)))
+}
+
+/// The same in a planar layout.
+fn planar_sample(region: &Region, code: u32, x: u128, y: u128) -> Option<[u128; 3]> {
     let luma_rows = region.src_slice_pitch.checked_div(region.src_pitch)?;
     let (0, [pitch, luma_rows, chroma_rows, _]) =
         planar_layout_from_pitch(code, region.src_pitch, luma_rows)
@@ -217,7 +318,7 @@ fn planar_end(region: &Region, code: u32, x: u128, y: u128) -> Option<u128> {
         let v = base + y / 2 * (pitch / 2) + x / 2;
         (v + chroma_rows * (pitch / 2), v)
     };
-    Some(luma.max(u).max(v) + 1)
+    Some([luma, u, v])
 }
 
 /// One past the last byte that a texel needs of the destination.
@@ -239,10 +340,11 @@ pub struct Conversion<'a> {
     pub src_format: u32,
     pub src_length: usize,
     pub region: &'a Region,
+    pub set: YuvSet,
 }
 
 impl Conversion<'_> {
-    /// Refusals 1 to 4.
+    /// Refusals 1 to 4 and 15.
     pub fn reply(&self) -> u32 {
         let region = self.region;
         if !can_convert(self.src_format, self.dst_format) {
@@ -254,6 +356,9 @@ impl Conversion<'_> {
                 || !region.src_slice_pitch.is_multiple_of(region.src_pitch))
         {
             return 2;
+        }
+        if is_yuv(self.src_format) && !is_legal(&self.set) {
+            return 15;
         }
         if is_empty(region) {
             return 0;

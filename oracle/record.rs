@@ -1,15 +1,17 @@
 //! Usage: record FOLDER
-//! Records the original's answers, in three files of the folder. `vectors` has the leaf arithmetic
-//! of channels, as records of four little-endian 32-bit words: call, a, b, answer; `values` and
-//! `buffers` have every public call (record_calls.rs). README.md lists the calls. Every answer
-//! comes from a public function of the original, and from stills.rs or the C compiler where document
-//! 02 departs from them; where several lanes or formats show the same arithmetic, they must agree.
+//! Records the original's answers, in four files of the folder. `vectors` has the leaf arithmetic
+//! of channels, as records of four little-endian 32-bit words: call, a, b, answer; `values`,
+//! `buffers` and `sets` have every public call (record_calls.rs). README.md lists the calls. Every
+//! answer comes from a public function of the original, and from stills.rs, sets.rs or the C
+//! compiler where document 02 departs from them; where several lanes or formats show the same
+//! arithmetic, they must agree.
 
 mod answers;
 mod calls;
 mod common;
 mod paper;
 mod record_calls;
+mod sets;
 mod stills;
 
 use std::{path::Path, process::ExitCode};
@@ -19,7 +21,7 @@ use common::{XorShift, convert_texel, whole_frame};
 use mtld3d_types::*;
 use original::{convert::d3dcolor_fill_pixel_bytes, format::linear_row_pitch};
 use paper::{FORMATS, Kind};
-use record_calls::{BUFFERS, Recorder, VALUES};
+use record_calls::{BUFFERS, Recorder, SETS, VALUES};
 
 /// Records of one call: a, b, answer.
 type Sample = Vec<[u32; 3]>;
@@ -27,7 +29,7 @@ type Sample = Vec<[u32; 3]>;
 /// A call's number and name, and how its records are made.
 type Call = (u32, &'static str, fn(&mut XorShift) -> Sample);
 
-/// The calls; numbers 16 to 28 are the public calls.
+/// The calls; numbers 16 to 28 and 30 are the public calls.
 const CALLS: [Call; 16] = [
     (1, "expand4", |_| answers(0..16, expand4)),
     (2, "expand5", |_| answers(0..32, expand5)),
@@ -66,6 +68,7 @@ fn main() -> ExitCode {
         ("vectors", vectors()),
         ("values", public(&VALUES)),
         ("buffers", public(&BUFFERS)),
+        ("sets", public(&SETS)),
     ];
     for (name, file) in files {
         println!("{name}: {} bytes", file.len());
@@ -334,6 +337,7 @@ fn bytes_a_texel(format: u32) -> u32 {
             src_format: format,
             src: vec![0; *length],
             region: whole_frame(1, 1, *length, 4),
+            set: None,
         };
         answers::convert(&call).0
     };

@@ -1,25 +1,27 @@
-//! Recorded answers for every public call, in two files of records of one size each, with
+//! Recorded answers for every public call, in three files of records of one size each, with
 //! little-endian numbers. README.md lists the calls and the places in a record.
 //!
 //! `values`, 64 bytes: the call's number and 1 for a refusal, three parameters, 32 bytes of answer.
-//! `buffers`, 512 bytes: the call's number and 1 for a refusal, fifteen parameters, five areas.
+//! `buffers` and `sets`, 512 bytes: the call's number and 1 for a refusal, fifteen parameters, five
+//! areas.
 //!
 //! The original decides acceptance and every byte of an accepted call; for the pairs that document
-//! 02 adds, paper.rs and stills.rs do, and for binary16 between 2^-25 and 2^-24 the C compiler
-//! (float16.c). After a refusal every lent byte is what it was and what is handed back is zero,
-//! which is the port's rule (docs/DIFFERENCES.md). Left out: what the original would wrap or panic
-//! at, what it would accept of a plane layout that has refusal 10, and what does not fit in an area.
+//! 02 adds, paper.rs and stills.rs do, for sets of YUV numbers other than BT601 paper.rs and
+//! sets.rs, and for binary16 between 2^-25 and 2^-24 the C compiler (float16.c). After a refusal
+//! every lent byte is what it was and what is handed back is zero, which is the port's rule
+//! (docs/DIFFERENCES.md). Left out: what the original would wrap or panic at, what it would accept
+//! of a plane layout that has refusal 10, and what does not fit in an area.
 
 use original::{convert, pixel_convert, stretch_rect};
 
 use crate::{
     answers,
     calls::{
-        ConvertCall, DEPTHS, DepthCall, EDGES32, MAGNITUDES, any_code, any32, any64, both_signs,
-        listed_codes, near_tie, pairs,
+        CHANGES, ConvertCall, DEPTHS, DepthCall, EDGES32, MAGNITUDES, Pair, any_code, any32, any64,
+        both_signs, legal_set, listed_codes, near_tie, pairs, sets_at_ends, sets_outside,
     },
-    common::{Region, XorShift, random_bytes, whole_frame},
-    paper::{self, FORMATS, Format, Kind, NV12, YV12, named},
+    common::{Region, XorShift, YuvSet, random_bytes, whole_frame},
+    paper::{self, BT601, BT709, FORMATS, Format, Kind, NV12, YV12, named},
 };
 
 /// A call's number and name, and how its cases are recorded.
@@ -51,6 +53,9 @@ pub const BUFFERS: [Call; 4] = [
     (27, "pack", packs),
     (28, "splat_pixel_pattern", splats),
 ];
+
+/// The calls of the file `sets`.
+pub const SETS: [Call; 1] = [(30, "convert_region_with_set", conversions_with_set)];
 
 /// The bytes of an area, and so the longest buffer that is lent.
 const AREA: usize = 72;
@@ -127,7 +132,9 @@ impl Recorder {
         let (accepted, dst) = answers::convert(call);
         let after = if accepted { area(&dst, 0xa5) } else { before };
         let parameters = convert_parameters(call);
-        let areas: [&[u8]; 5] = [&area(&call.src, 0x3c), &before, &[], &after, &[]];
+        let set = call.set.iter().flat_map(paper::numbers);
+        let set: Vec<u8> = set.flat_map(u32::to_le_bytes).collect();
+        let areas: [&[u8]; 5] = [&area(&call.src, 0x3c), &before, &set, &after, &[]];
         self.buffers(accepted, &parameters, areas);
         true
     }
@@ -407,9 +414,61 @@ fn conversions(to: &mut Recorder) {
             src_format,
             src: random_bytes(&mut to.random, 64),
             region: whole_frame(2, 2, 32, 32),
+            set: None,
         };
         to.convert(&call);
     }
+}
+
+/// For every pair from YUV an exact region with both named sets and another legal one, one that is
+/// a byte short, and one of overlapping rows; for every YUV source each number at both ends of its
+/// range, and every change of an accepted call; illegal sets with these changes, and with sources
+/// that are not YUV.
+fn conversions_with_set(to: &mut Recorder) {
+    let (yuv, others): (Vec<Pair>, Vec<Pair>) = pairs()
+        .into_iter()
+        .partition(|(from, _)| paper::is_yuv(from.code));
+    for &(from, into) in &yuv {
+        let call = fitting(to, from, into);
+        for set in [BT601, BT709, legal_set(&mut to.random)] {
+            with_set(to, set, call.clone());
+        }
+        let set = legal_set(&mut to.random);
+        let call = shorter(&call, &mut to.random);
+        with_set(to, set, call);
+        let call = overlapping(to, from, into);
+        with_set(to, set, call);
+    }
+    for from in ["YUY2", "UYVY", "YV12", "NV12"].map(named) {
+        for set in sets_at_ends(&mut to.random) {
+            let call = fitting(to, from, named("A8R8G8B8"));
+            with_set(to, set, call);
+        }
+        for change in CHANGES {
+            let mut call = fitting(to, from, named("A8R8G8B8"));
+            change(&mut call);
+            with_set(to, BT709, call);
+        }
+    }
+    for set in sets_outside(&mut to.random) {
+        for change in CHANGES {
+            let (from, into) = to.random.pick(&yuv);
+            let mut call = fitting(to, from, into);
+            change(&mut call);
+            with_set(to, set, call);
+        }
+        for _ in 0..3 {
+            let (from, into) = to.random.pick(&others);
+            let call = fitting(to, from, into);
+            with_set(to, set, call);
+        }
+    }
+}
+
+/// Records the conversion with a set.
+fn with_set(to: &mut Recorder, set: YuvSet, mut call: ConvertCall) {
+    call.set = Some(set);
+    to.convert(&call);
 }
 
 /// An accepted conversion of a random small extent whose buffers fit.
@@ -452,7 +511,7 @@ fn overlapping(to: &mut Recorder, from: &Format, into: &Format) -> ConvertCall {
 }
 
 /// Regions without texels, on buffers of any length.
-fn empty(to: &mut Recorder, pairs: &[(&Format, &Format)], count: usize) {
+fn empty(to: &mut Recorder, pairs: &[Pair], count: usize) {
     for _ in 0..count {
         let (from, into) = to.random.pick(pairs);
         let mut call = fitting(to, from, into);
@@ -469,7 +528,7 @@ fn empty(to: &mut Recorder, pairs: &[(&Format, &Format)], count: usize) {
 }
 
 /// Conversions with one to three things changed.
-fn damaged(to: &mut Recorder, pairs: &[(&Format, &Format)], count: usize) {
+fn damaged(to: &mut Recorder, pairs: &[Pair], count: usize) {
     let mut left = count;
     while left > 0 {
         let (from, into) = to.random.pick(pairs);

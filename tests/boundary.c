@@ -85,6 +85,82 @@ static void test_convert(void)
           "convert_region: empty region, lengths 0");
 }
 
+/* The same conversion with YUV by a set. */
+static uint32_t convert_with_set(uint8_t *dst, size_t dst_len, const uint8_t *src, size_t src_len, uint32_t src_format,
+                                 uint32_t luma_gain, uint32_t luma_offset, uint32_t v_to_red, uint32_t u_to_green,
+                                 uint32_t v_to_green, uint32_t u_to_blue, uint32_t chroma_centre)
+{
+    return wentuqis_convert_region_with_set(dst, dst_len, WENTUQIS_FMT_A8R8G8B8, src, src_len, src_format,
+                                            0, 0, 0, 0, 2, 1, 4, 8, 3, 0, 1, luma_gain, luma_offset, v_to_red,
+                                            u_to_green, v_to_green, u_to_blue, chroma_centre);
+}
+
+/* Whether a set has these thousandths as the nearest 65536ths, and this centre. */
+static bool nearest(const uint32_t set[7], const uint64_t thousandths[6], uint32_t centre)
+{
+    for (size_t i = 0; i < 6; i++) {
+        if (set[i] != (thousandths[i] * 65536 + 500) / 1000) {
+            return false;
+        }
+    }
+    return set[6] == centre;
+}
+
+static void test_named_sets(void)
+{
+    static const uint32_t bt601[7] = {WENTUQIS_BT601};
+    static const uint32_t bt709[7] = {WENTUQIS_BT709};
+    static const uint64_t decimals601[6] = {1164, 16065, 1596, 392, 813, 2017};
+    static const uint64_t decimals709[6] = {1164, 16000, 1793, 213, 533, 2112};
+
+    check(nearest(bt601, decimals601, 255), "BT601: the nearest numbers");
+    check(nearest(bt709, decimals709, 256), "BT709: the nearest numbers");
+}
+
+static void test_convert_with_set(void)
+{
+    static const uint8_t frame[4] = {120, 100, 235, 150};
+    /* L is 104 x 76284 and 219 x 76284, U lies 28 below the centre and V 22 above it; in 65536ths the first texel is
+     * 10518668 red, 7555906 green, 4058000 blue, the second 19291328, 16328566, 12830660 */
+    static const uint8_t screen[8] = {62, 115, 161, 255, 196, 249, 255, 255};
+    static const uint8_t rgb[4] = {0x00, 0xf8, 0x1f, 0x00};
+    static const uint8_t rgb_screen[8] = {0, 0, 255, 255, 255, 0, 0, 255};
+    uint8_t dst[8], plain[8];
+
+    memset(dst, 9, sizeof dst);
+    check(convert_with_set(dst, 8, frame, 4, WENTUQIS_FMT_YUY2, 262144, 0, 0, 0, 0, 0, 256) == WENTUQIS_ILLEGAL_SET,
+          "convert_region_with_set: gain");
+    check(convert_with_set(dst, 8, frame, 4, WENTUQIS_FMT_YUY2, 0, 4194304, 0, 0, 0, 0, 256) == WENTUQIS_ILLEGAL_SET,
+          "convert_region_with_set: offset");
+    check(convert_with_set(dst, 8, frame, 4, WENTUQIS_FMT_YUY2, 0, 0, 0, 0, 0, 0, 257) == WENTUQIS_ILLEGAL_SET,
+          "convert_region_with_set: centre");
+    check(convert_with_set(dst, 8, frame, 4, WENTUQIS_FMT_NV12, 0, 0, 0, 0, 0, 0, 257) == WENTUQIS_PLANAR_SHAPE,
+          "convert_region_with_set: planar shape before the set");
+    check(convert_with_set(dst, 8, frame, 3, WENTUQIS_FMT_YUY2, 0, 0, 0, 0, 0, 0, 257) == WENTUQIS_ILLEGAL_SET,
+          "convert_region_with_set: the set before the source");
+    check(convert_with_set(dst, 8, frame, 3, WENTUQIS_FMT_YUY2, WENTUQIS_BT709) == WENTUQIS_SOURCE_OUTSIDE,
+          "convert_region_with_set: source");
+    check(convert_with_set(dst, 7, frame, 4, WENTUQIS_FMT_YUY2, WENTUQIS_BT709) == WENTUQIS_DESTINATION_OUTSIDE,
+          "convert_region_with_set: destination");
+    check(all(dst, sizeof dst, 9), "convert_region_with_set: refused, dst is kept");
+
+    check(convert_with_set(dst, 8, frame, 4, WENTUQIS_FMT_YUY2, WENTUQIS_BT709) == WENTUQIS_ACCEPTED,
+          "convert_region_with_set: BT709");
+    check(memcmp(dst, screen, sizeof dst) == 0, "convert_region_with_set: bytes by BT709");
+
+    memset(plain, 9, sizeof plain);
+    check(convert(plain, 8, frame, 4, WENTUQIS_FMT_YUY2) == WENTUQIS_ACCEPTED, "convert_region: accepted");
+    check(memcmp(dst, plain, sizeof dst) != 0, "convert_region_with_set: BT709 is not convert_region");
+    check(convert_with_set(dst, 8, frame, 4, WENTUQIS_FMT_YUY2, WENTUQIS_BT601) == WENTUQIS_ACCEPTED,
+          "convert_region_with_set: BT601");
+    check(memcmp(dst, plain, sizeof dst) == 0, "convert_region_with_set: BT601 is convert_region");
+
+    check(convert_with_set(dst, 8, rgb, 4, WENTUQIS_FMT_R5G6B5, 262144, 4194304, 262144, 262144, 262144, 262144, 257)
+              == WENTUQIS_ACCEPTED,
+          "convert_region_with_set: any set where the source is RGB");
+    check(memcmp(dst, rgb_screen, sizeof dst) == 0, "convert_region_with_set: bytes where the source is RGB");
+}
+
 static void test_fill(void)
 {
     uint8_t bytes[16];
@@ -199,6 +275,8 @@ int main(void)
 {
     test_pairs();
     test_convert();
+    test_named_sets();
+    test_convert_with_set();
     test_fill();
     test_splat();
     test_numbers();

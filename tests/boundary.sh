@@ -1,6 +1,6 @@
 #!/usr/bin/env bash
 # Compiles tests/boundary.c against include/wentuqis.h and libwentuqis.a, and runs it. Where there is a C++ compiler,
-# the header must compile as C++ too.
+# the header and a named set must compile as C++ too.
 # usage: tests/boundary.sh [FOLDER]   FOLDER holds libwentuqis.a (default: target/staticlib)
 # Without a C compiler it says so in one line and exits with 0, or with 1 if CI is set.
 set -euo pipefail
@@ -26,7 +26,7 @@ trap 'rm -rf "$scratch"' EXIT
 "$compiler" -std=c99 -Wall -Wextra -Werror -Iinclude tests/boundary.c "$archive" -o "$scratch/boundary"
 
 if command -v c++ >/dev/null; then
-    echo '#include "wentuqis.h"' >"$scratch/header.cpp"
+    printf '%s\n' '#include "wentuqis.h"' 'uint32_t set[7] = {WENTUQIS_BT709};' >"$scratch/header.cpp"
     c++ -Wall -Wextra -Werror -Iinclude -fsyntax-only "$scratch/header.cpp"
 fi
 

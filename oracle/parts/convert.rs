@@ -3,8 +3,8 @@
 
 use crate::{
     calls::{
-        ConvertCall, EDGES64, MAGNITUDES, any_code, any32, any64, both_signs, listed_codes, pairs,
-        row_bytes, texel_bytes, tie,
+        ConvertCall, EDGES64, MAGNITUDES, Pair, any_code, any32, any64, both_signs, listed_codes,
+        pairs, texel_bytes, tie,
     },
     checks::{Checks, spread},
     common::{Region, XorShift, random_bytes, whole_frame},
@@ -12,15 +12,14 @@ use crate::{
 };
 
 pub fn run(checks: &mut Checks, random: &mut XorShift, all: bool) {
+    let pairs = pairs();
     codes(checks, random);
-    buffer_ends(checks, random);
-    widths(checks, random);
-    empty_regions(checks, random);
-    overlaps(checks, random);
+    every_pair(random, &pairs, |call| checks.convert_region(&call));
     limits(checks, random);
     endless(checks, random);
     planar_limits(checks, random);
-    damaged(checks, random, if all { 20_000_000 } else { 1_500_000 });
+    let count = if all { 20_000_000 } else { 1_500_000 };
+    damaged(random, &pairs, count, |call| checks.convert_region(&call));
     narrow_texels(checks, random);
     luminances(checks);
     wide_texels(checks, random);
@@ -36,6 +35,13 @@ fn destinations() -> impl Iterator<Item = &'static Format> {
     FORMATS.iter().filter(|format| format.kind == Kind::Rgb)
 }
 
+/// What every pair meets: buffers around the least lengths, widths, empty regions, overlaps.
+pub fn every_pair(random: &mut XorShift, pairs: &[Pair], mut check: impl FnMut(ConvertCall)) {
+    for cases in [buffer_ends, widths, empty_regions, overlaps] {
+        cases(random, pairs, &mut check);
+    }
+}
+
 /// Every listed code with every other, and random ones, on buffers that would do for each.
 fn codes(checks: &mut Checks, random: &mut XorShift) {
     let listed = listed_codes();
@@ -48,6 +54,7 @@ fn codes(checks: &mut Checks, random: &mut XorShift) {
             src_format,
             src: src.clone(),
             region: whole_frame(2, 2, 32, 32),
+            set: None,
         });
     };
     for &src_format in &listed {
@@ -61,7 +68,7 @@ fn codes(checks: &mut Checks, random: &mut XorShift) {
 }
 
 /// Buffers one byte short, exact, and one byte long.
-fn buffer_ends(checks: &mut Checks, random: &mut XorShift) {
+fn buffer_ends(random: &mut XorShift, pairs: &[Pair], check: &mut dyn FnMut(ConvertCall)) {
     const EXTENTS: [[u32; 3]; 14] = [
         [1, 1, 1],
         [64, 1, 1],
@@ -78,14 +85,14 @@ fn buffer_ends(checks: &mut Checks, random: &mut XorShift) {
         [8, 2, 1],
         [33, 3, 1],
     ];
-    for (from, to) in pairs() {
+    for (from, to) in pairs {
         for extent in EXTENTS {
             let exact = ConvertCall::accepted(random, from, to, extent);
             for lengths in 0..9 {
                 let mut call = exact.clone();
                 call.src.resize(exact.src.len() + lengths / 3 - 1, 0);
                 call.dst.resize(exact.dst.len() + lengths % 3 - 1, 0);
-                checks.convert_region(&call);
+                check(call);
             }
         }
     }
@@ -93,23 +100,22 @@ fn buffer_ends(checks: &mut Checks, random: &mut XorShift) {
 
 /// Every width to 70 and those around further multiples of 64, which is how many texels the port
 /// takes at a time, then larger frames.
-fn widths(checks: &mut Checks, random: &mut XorShift) {
-    for (from, to) in pairs() {
+fn widths(random: &mut XorShift, pairs: &[Pair], check: &mut dyn FnMut(ConvertCall)) {
+    for (from, to) in pairs {
         for width in (1..=70).chain(126..=130).chain(190..=194) {
             let height = 1 + random.below(4) as u32;
-            let call = ConvertCall::accepted(random, from, to, [width, height, 1]);
-            checks.convert_region(&call);
+            check(ConvertCall::accepted(random, from, to, [width, height, 1]));
         }
         for extent in [[257, 130, 1], [64, 33, 3]] {
-            checks.convert_region(&ConvertCall::accepted(random, from, to, extent));
+            check(ConvertCall::accepted(random, from, to, extent));
         }
     }
 }
 
 /// Regions that are empty in one direction or several, on buffers of any length, with any
 /// origins, pitches and sizes otherwise.
-fn empty_regions(checks: &mut Checks, random: &mut XorShift) {
-    for (from, to) in pairs() {
+fn empty_regions(random: &mut XorShift, pairs: &[Pair], check: &mut dyn FnMut(ConvertCall)) {
+    for (from, to) in pairs {
         for zero in 1..8 {
             for _ in 0..8 {
                 let mut call = ConvertCall::accepted(random, from, to, [3, 2, 1]);
@@ -126,15 +132,15 @@ fn empty_regions(checks: &mut Checks, random: &mut XorShift) {
                 if zero & 4 != 0 {
                     region.depth = 0;
                 }
-                checks.convert_region(&call);
+                check(call);
             }
         }
     }
 }
 
 /// Pitches narrower than rows, slice pitches smaller than slices, and 0, of either buffer.
-fn overlaps(checks: &mut Checks, random: &mut XorShift) {
-    for (from, to) in pairs() {
+fn overlaps(random: &mut XorShift, pairs: &[Pair], check: &mut dyn FnMut(ConvertCall)) {
+    for (from, to) in pairs {
         for _ in 0..60 {
             let depth = random.below(4) as u32;
             let extent = [
@@ -154,7 +160,7 @@ fn overlaps(checks: &mut Checks, random: &mut XorShift) {
                 shrink(&mut region.src_pitch);
                 shrink(&mut region.src_slice_pitch);
             }
-            checks.convert_region(&ConvertCall::exact(random, from, to, region));
+            check(ConvertCall::exact(random, from, to, region));
         }
     }
 }
@@ -276,6 +282,7 @@ fn planar_limit(
         src_format: format,
         src: Vec::new(),
         region,
+        set: None,
     };
     let least = call.conversion().least_lengths();
     let whole = pitch * (rows + rows.div_ceil(2));
@@ -288,23 +295,27 @@ fn planar_limit(
     }
 }
 
-/// Accepted conversions with up to three things changed.
-fn damaged(checks: &mut Checks, random: &mut XorShift, count: usize) {
-    let pairs = pairs();
+/// Accepted conversions with up to three things changed, then some in which every number is any.
+pub fn damaged(
+    random: &mut XorShift,
+    pairs: &[Pair],
+    count: usize,
+    mut check: impl FnMut(ConvertCall),
+) {
     for _ in 0..count {
-        let mut call = ConvertCall::any(random, &pairs);
+        let mut call = ConvertCall::any(random, pairs);
         for _ in 0..random.below(4) {
             call.damage(random);
         }
-        checks.convert_region(&call);
+        check(call);
     }
     for _ in 0..count / 10 {
-        checks.convert_region(&any_numbers(random, &pairs));
+        check(any_numbers(random, pairs));
     }
 }
 
-/// A conversion in which every number is any.
-fn any_numbers(random: &mut XorShift, pairs: &[(&Format, &Format)]) -> ConvertCall {
+/// A conversion in which every number of the region is any.
+fn any_numbers(random: &mut XorShift, pairs: &[Pair]) -> ConvertCall {
     let mut call = ConvertCall::any(random, pairs);
     call.region = Region {
         src_x: any32(random),
@@ -324,16 +335,7 @@ fn any_numbers(random: &mut XorShift, pairs: &[(&Format, &Format)]) -> ConvertCa
 
 /// A frame of these source bytes, `width` texels a row, without padding.
 fn frame(checks: &mut Checks, from: &Format, to: &Format, width: usize, src: Vec<u8>) {
-    let src_pitch = row_bytes(from, width);
-    let (dst_pitch, height) = (width * to.bytes, src.len() / src_pitch);
-    let region = whole_frame(width as u32, height as u32, src_pitch, dst_pitch);
-    checks.convert_region(&ConvertCall {
-        dst_format: to.code,
-        dst: vec![0x5a; dst_pitch * height],
-        src_format: from.code,
-        src,
-        region,
-    });
+    checks.convert_region(&ConvertCall::frame(from, to, width, src));
 }
 
 /// Every texel of 8 and of 16 bits, and every byte in each place of larger ones.
@@ -401,10 +403,12 @@ fn still_texels(checks: &mut Checks, random: &mut XorShift) {
         ("V8U8", &[16]),
         ("Q8W8V8U8", &[8, 8, 8, 8]),
     ];
-    for (name, widths) in WIDTHS {
-        let src = every_code(random, named(name), widths);
-        checks.near(named(name), &src);
-        frame(checks, named(name), named("A8R8G8B8"), 4, src);
+    let to = named("A8R8G8B8");
+    for (from, widths) in WIDTHS.map(|(name, widths)| (named(name), widths)) {
+        let src = every_code(random, from, widths);
+        let texels = src.len() / from.bytes;
+        checks.near(&ConvertCall::frame(from, to, texels, src.clone()));
+        frame(checks, from, to, 4, src);
     }
 }
 
@@ -435,10 +439,9 @@ fn every_yuv(checks: &mut Checks, random: &mut XorShift) {
     let [yuy2, uyvy] = ["YUY2", "UYVY"].map(named);
     for luma in 0..=255_u8 {
         let other = random.next_u32() as u8;
-        let chroma = || (0..=0xffff_u16).map(u16::to_le_bytes);
-        let first = chroma().flat_map(|[u, v]| [luma, u, other, v]).collect();
-        let second = chroma().flat_map(|[u, v]| [u, other, v, luma]).collect();
         let to = named("A8B8G8R8");
+        let first = every_chroma(|[u, v]| [luma, u, other, v]);
+        let second = every_chroma(|[u, v]| [u, other, v, luma]);
         frame(checks, yuy2, to, 512, first);
         frame(checks, uyvy, to, 512, second);
     }
@@ -446,6 +449,12 @@ fn every_yuv(checks: &mut Checks, random: &mut XorShift) {
     for to in destinations() {
         frame(checks, yuy2, to, 2048, src.clone());
     }
+}
+
+/// The macropixels that are made of every U and V.
+pub fn every_chroma(macropixel: impl Fn([u8; 2]) -> [u8; 4]) -> Vec<u8> {
+    let chroma = (0..=0xffff_u16).map(u16::to_le_bytes);
+    chroma.flat_map(macropixel).collect()
 }
 
 /// Every binary32 pattern, four to a texel.

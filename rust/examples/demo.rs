@@ -1,6 +1,6 @@
 //! What a viewer does with this crate, with pictures: a depth picture that is unpacked and packed
-//! again, a camera frame that is shown in two screen formats, and a frame that is one byte short.
-//! Each result is checked; the exit status is 1 if one does not hold.
+//! again, a camera frame by BT.601 and by BT.709 that is shown in two screen formats, and a frame that
+//! is one byte short. Each result is checked; the exit status is 1 if one does not hold.
 //!
 //! usage: demo [FOLDER]   pictures go to FOLDER (default: out)
 
@@ -21,7 +21,7 @@ use std::process::ExitCode;
 use std::{env, fs};
 
 use depth_picture::DepthPicture;
-use frames::{Frame, NV12_PITCH, Screen};
+use frames::{BT601, BT709, Frame, NV12_PITCH, Screen};
 use plant_room::{CABINET_FRONT, Camera, TERMINAL_BOX};
 use wentuqis::Refused;
 use wentuqis::depth_texture::PlaneLayout;
@@ -131,7 +131,11 @@ fn frames_of_a_vial(folder: &Path) -> Outcome {
         vial::WIDTH,
         vial::HEIGHT
     );
-    let frames = [Frame::yuy2(), Frame::nv12(NV12_PITCH)];
+    let frames = [
+        Frame::yuy2(),
+        Frame::nv12("NV12", NV12_PITCH, &BT601),
+        Frame::nv12("NV12_BT709", NV12_PITCH, &BT709),
+    ];
     for frame in &frames {
         line!(frame.name, "rows of {} bytes", frame.pitch);
     }
@@ -168,7 +172,7 @@ fn print_errors(what: &str, errors: &[(i64, i64); 3], path: &Path) -> Outcome {
 
 fn frame_one_byte_short() -> Outcome {
     println!("\n3  The frame in NV12 without row padding, one byte short");
-    let mut frame = Frame::nv12(vial::WIDTH);
+    let mut frame = Frame::nv12("NV12", vial::WIDTH, &BT601);
     frame.bytes.pop();
     let mut screen = Screen::new(D3DFMT_A8R8G8B8);
     let before = screen.bytes.clone();

@@ -6,7 +6,7 @@
 //! Nothing is checked on the way: the library takes any number. oracle/port.rs compiles this file
 //! too.
 
-use super::shapes::{ConvertRegion, PlaneLayout};
+use super::shapes::{ConvertRegion, PlaneLayout, YuvSet};
 
 // SAFETY: as include/wentuqis.h declares them; a `safe` call takes only numbers and whole arrays.
 unsafe extern "C" {
@@ -58,6 +58,32 @@ unsafe extern "C" {
         src_slice_pitch: usize,
         dst_slice_pitch: usize,
         depth: usize,
+    ) -> u32;
+    fn wentuqis_convert_region_with_set(
+        dst: *mut u8,
+        dst_len: usize,
+        dst_format: u32,
+        src: *const u8,
+        src_len: usize,
+        src_format: u32,
+        src_x: u32,
+        src_y: u32,
+        dst_x: u32,
+        dst_y: u32,
+        width: u32,
+        height: u32,
+        src_pitch: usize,
+        dst_pitch: usize,
+        src_slice_pitch: usize,
+        dst_slice_pitch: usize,
+        depth: usize,
+        luma_gain: u32,
+        luma_offset: u32,
+        v_to_red: u32,
+        u_to_green: u32,
+        v_to_green: u32,
+        u_to_blue: u32,
+        chroma_centre: u32,
     ) -> u32;
     fn wentuqis_splat_pixel_pattern(
         dst: *mut u8,
@@ -123,6 +149,46 @@ pub(crate) fn convert_region(
             region.src_slice_pitch,
             region.dst_slice_pitch,
             region.depth,
+        )
+    }
+}
+
+/// Converts a region with YUV by these numbers; replies 0 or a refusal of 1 to 4 and 15.
+pub(crate) fn convert_region_with_set(
+    dst: &mut [u8],
+    dst_format: u32,
+    src: &[u8],
+    src_format: u32,
+    region: &ConvertRegion,
+    numbers: &YuvSet,
+) -> u32 {
+    // SAFETY: each pointer and length are those of one slice, lent for the whole call.
+    unsafe {
+        wentuqis_convert_region_with_set(
+            dst.as_mut_ptr(),
+            dst.len(),
+            dst_format,
+            src.as_ptr(),
+            src.len(),
+            src_format,
+            region.src_x,
+            region.src_y,
+            region.dst_x,
+            region.dst_y,
+            region.width,
+            region.height,
+            region.src_pitch,
+            region.dst_pitch,
+            region.src_slice_pitch,
+            region.dst_slice_pitch,
+            region.depth,
+            numbers.luma_gain,
+            numbers.luma_offset,
+            numbers.v_to_red,
+            numbers.u_to_green,
+            numbers.v_to_green,
+            numbers.u_to_blue,
+            numbers.chroma_centre,
         )
     }
 }

@@ -10,6 +10,9 @@
 //! the signed U, V, W, Q, which are red, green, blue and alpha, a code at or below 0 gives 0, and a
 //! positive n the nearest byte to 255n/127. L16 fills red, green and blue. A channel that the format
 //! lacks is 255.
+//!
+//! YUV is converted by a set of numbers. The original has one, [`YuvSet::BT601`], which
+//! [`convert_region`] keeps; [`convert_region_with_set`] takes any, as [`YuvSet::BT709`].
 
 use std::fmt;
 
@@ -20,9 +23,9 @@ use crate::format::{
 use crate::planar_yuv::{PlanarYuvLayout, missing_layout, planar_yuv_layout_from_pitch};
 use crate::refusal::{Call, Refusal, Refused, accepted};
 
-pub use crate::shapes::ConvertRegion;
+pub use crate::shapes::{ConvertRegion, YuvSet};
 
-/// Whether [`convert_region`] converts this source format into this destination format.
+/// Whether [`convert_region`], by any set, converts this source format into this destination format.
 ///
 /// Never refuses. Unlike the original it is no `const fn`.
 ///
@@ -63,8 +66,8 @@ pub fn can_convert_update(src_format: u32, dst_format: u32) -> bool {
 /// `src` and `dst` are whole levels, addressed through the region's pitches. Texels go by slice, row
 /// and column; where destination texels overlap, the last stands. X is written as ones. A packed YUV
 /// texel needs its whole macropixel of four bytes. A region with width, height or depth 0 is accepted
-/// and writes nothing, if the formats convert and a planar source has its shape.
-/// [`try_convert_region`] says why it refuses.
+/// and writes nothing, if the formats convert and a planar source has its shape. YUV goes by
+/// [`YuvSet::BT601`]. [`try_convert_region`] says why it refuses.
 ///
 /// ```
 /// use wentuqis::format::{D3DFMT_A8R8G8B8, D3DFMT_R5G6B5};
@@ -133,14 +136,167 @@ pub fn try_convert_region(
 ) -> Result<(), Refused> {
     let reply = ffi::convert_region(dst, dst_format, src, src_format, region);
     accepted(reply, || {
-        Call::Convert(ConvertCall {
-            dst_format,
-            dst_len: dst.len(),
-            src_format,
-            src_len: src.len(),
-            region: *region,
-        })
+        convert_call(dst, dst_format, src, src_format, region)
     })
+}
+
+/// [`convert_region`] with YUV by these numbers; false if refused, and `dst` is then as it was.
+///
+/// With a source that is not YUV the numbers are not looked at, and may be any. With a YUV source a
+/// number outside its range is refused, in an empty region too. By [`YuvSet::BT601`] it is
+/// [`convert_region`] itself. [`try_convert_region_with_set`] says why it refuses. The original has
+/// no such call.
+///
+/// ```
+/// use wentuqis::format::{D3DFMT_A8R8G8B8, D3DFMT_YUY2};
+/// use wentuqis::pixel_convert::{ConvertRegion, YuvSet, convert_region_with_set};
+///
+/// // Two texels of a high-definition camera, black and white.
+/// let (frame, format) = ([16, 128, 235, 128], D3DFMT_YUY2);
+/// let region = ConvertRegion {
+///     width: 2,
+///     height: 1,
+///     src_pitch: 4,
+///     dst_pitch: 8,
+///     depth: 1,
+///     ..ConvertRegion::default()
+/// };
+/// let mut screen = [9; 8];
+/// let numbers = YuvSet::BT709;
+/// assert!(convert_region_with_set(&mut screen, D3DFMT_A8R8G8B8, &frame, format, &region, &numbers));
+/// assert_eq!(screen, [0, 0, 0, 255, 255, 255, 255, 255]);
+/// ```
+#[must_use]
+pub fn convert_region_with_set(
+    dst: &mut [u8],
+    dst_format: u32,
+    src: &[u8],
+    src_format: u32,
+    region: &ConvertRegion,
+    numbers: &YuvSet,
+) -> bool {
+    ffi::convert_region_with_set(dst, dst_format, src, src_format, region, numbers) == 0
+}
+
+/// [`convert_region_with_set`], with the reason if it refuses.
+///
+/// # Errors
+/// [`Refusal::UnsupportedPair`], [`Refusal::PlanarShape`], [`Refusal::IllegalSet`],
+/// [`Refusal::SourceOutside`] and [`Refusal::DestinationOutside`]; of several the first, in this
+/// order. `dst` is then as it was.
+///
+/// ```
+/// use wentuqis::Refusal;
+/// use wentuqis::format::{D3DFMT_A8R8G8B8, D3DFMT_YUY2};
+/// use wentuqis::pixel_convert::{ConvertRegion, YuvSet, try_convert_region_with_set};
+///
+/// let (frame, format) = ([120, 100, 120, 150], D3DFMT_YUY2);
+/// let region = ConvertRegion {
+///     width: 1,
+///     height: 1,
+///     src_pitch: 4,
+///     dst_pitch: 4,
+///     depth: 1,
+///     ..ConvertRegion::default()
+/// };
+/// let mut texel = [9; 4];
+/// let steep = YuvSet {
+///     v_to_red: 4 * 65536,
+///     ..YuvSet::BT709
+/// };
+/// let refused =
+///     try_convert_region_with_set(&mut texel, D3DFMT_A8R8G8B8, &frame, format, &region, &steep)
+///         .unwrap_err();
+/// assert_eq!(refused.refusal, Refusal::IllegalSet);
+/// assert_eq!(
+///     refused.to_string(),
+///     "illegal set: the set's v_to_red is 262144, and a gain is at most 262143 (65536ths)"
+/// );
+/// assert_eq!(texel, [9; 4]);
+///
+/// let numbers = YuvSet::BT709;
+/// try_convert_region_with_set(&mut texel, D3DFMT_A8R8G8B8, &frame, format, &region, &numbers)?;
+/// assert_eq!(texel, [62, 115, 161, 255]);
+/// # Ok::<(), wentuqis::Refused>(())
+/// ```
+pub fn try_convert_region_with_set(
+    dst: &mut [u8],
+    dst_format: u32,
+    src: &[u8],
+    src_format: u32,
+    region: &ConvertRegion,
+    numbers: &YuvSet,
+) -> Result<(), Refused> {
+    let reply = ffi::convert_region_with_set(dst, dst_format, src, src_format, region, numbers);
+    accepted(reply, || {
+        if reply == Refusal::IllegalSet.number() {
+            Call::Set(SetCall { numbers: *numbers })
+        } else {
+            convert_call(dst, dst_format, src, src_format, region)
+        }
+    })
+}
+
+fn convert_call(
+    dst: &[u8],
+    dst_format: u32,
+    src: &[u8],
+    src_format: u32,
+    region: &ConvertRegion,
+) -> Call {
+    Call::Convert(ConvertCall {
+        dst_format,
+        dst_len: dst.len(),
+        src_format,
+        src_len: src.len(),
+        region: *region,
+    })
+}
+
+/// The largest gain and the largest luma offset of a set, in 65536ths.
+const MAX_GAIN: u32 = 262_143;
+const MAX_LUMA_OFFSET: u32 = 4_194_303;
+
+/// The set of a conversion that was refused for it.
+#[derive(Clone, Copy, Debug, PartialEq, Eq)]
+pub(crate) struct SetCall {
+    numbers: YuvSet,
+}
+
+impl SetCall {
+    /// Writes what to mend: the first number outside its range.
+    pub(crate) fn explain(&self, f: &mut fmt::Formatter<'_>) -> fmt::Result {
+        let YuvSet {
+            luma_gain,
+            luma_offset,
+            v_to_red,
+            u_to_green,
+            v_to_green,
+            u_to_blue,
+            chroma_centre,
+        } = self.numbers;
+        let in_65536ths = [
+            ("luma gain", luma_gain, "a gain", MAX_GAIN),
+            ("luma offset", luma_offset, "it", MAX_LUMA_OFFSET),
+            ("v_to_red", v_to_red, "a gain", MAX_GAIN),
+            ("u_to_green", u_to_green, "a gain", MAX_GAIN),
+            ("v_to_green", v_to_green, "a gain", MAX_GAIN),
+            ("u_to_blue", u_to_blue, "a gain", MAX_GAIN),
+        ];
+        match in_65536ths
+            .into_iter()
+            .find(|(_, number, _, max)| number > max)
+        {
+            Some((name, number, what, max)) => write!(
+                f,
+                "the set's {name} is {number}, and {what} is at most {max} (65536ths)"
+            ),
+            None => write!(
+                f,
+                "the set's chroma centre is {chroma_centre}, and it is 255 or 256 (halves)"
+            ),
+        }
+    }
 }
 
 /// The arguments of a refused conversion.

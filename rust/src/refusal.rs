@@ -4,13 +4,14 @@ use std::{error, fmt};
 
 use crate::convert::FillCall;
 use crate::depth_texture::{PackCall, PlanesCall};
-use crate::pixel_convert::ConvertCall;
+use crate::pixel_convert::{ConvertCall, SetCall};
 use crate::planar_yuv::PlanarCall;
 
 /// The reason of a refusal. Later versions may add cases.
 ///
-/// Where several apply to a call, the one with the lowest number is given. Its `Display` is the
-/// short name with which every [`Refused`] begins.
+/// Where several apply to a call, the one with the lowest number is given, but that
+/// [`IllegalSet`](Self::IllegalSet), 15, comes between 2 and 3. Its `Display` is the short name with
+/// which every [`Refused`] begins.
 ///
 /// ```
 /// use wentuqis::Refusal;
@@ -55,11 +56,14 @@ pub enum Refusal {
     ShortStencil = 13,
     /// Planar layout: the format is neither YV12 nor NV12, or no layout has these sizes.
     NoPlanarLayout = 14,
+    /// Conversion by a set, YUV source only: a gain above 262143, a luma offset above 4194303, or a
+    /// chroma centre other than 255 and 256.
+    IllegalSet = 15,
 }
 
 impl Refusal {
     /// Every case, in the order of the numbers from 1.
-    const ALL: [Self; 14] = [
+    const ALL: [Self; 15] = [
         Self::UnsupportedPair,
         Self::PlanarShape,
         Self::SourceOutside,
@@ -74,9 +78,10 @@ impl Refusal {
         Self::ShortDepth,
         Self::ShortStencil,
         Self::NoPlanarLayout,
+        Self::IllegalSet,
     ];
 
-    /// The number that the library replies with, 1 to 14.
+    /// The number that the library replies with, 1 to 15.
     ///
     /// ```
     /// assert_eq!(wentuqis::Refusal::NoPlanarLayout.number(), 14);
@@ -86,14 +91,14 @@ impl Refusal {
         self as u32
     }
 
-    /// The refusal with this number; `None` for 0, which is "accepted", and for numbers above 14.
+    /// The refusal with this number; `None` for 0, which is "accepted", and for numbers above 15.
     ///
     /// ```
     /// use wentuqis::Refusal;
     ///
     /// assert_eq!(Refusal::from_number(1), Some(Refusal::UnsupportedPair));
     /// assert_eq!(Refusal::from_number(0), None);
-    /// assert_eq!(Refusal::from_number(15), None);
+    /// assert_eq!(Refusal::from_number(16), None);
     /// ```
     #[must_use]
     pub fn from_number(number: u32) -> Option<Self> {
@@ -120,6 +125,7 @@ impl fmt::Display for Refusal {
             Self::ShortDepth => "short depth plane",
             Self::ShortStencil => "short stencil plane",
             Self::NoPlanarLayout => "no planar layout",
+            Self::IllegalSet => "illegal set",
         })
     }
 }
@@ -164,6 +170,7 @@ pub struct Refused {
 #[derive(Clone, Copy, Debug, PartialEq, Eq)]
 pub(crate) enum Call {
     Convert(ConvertCall),
+    Set(SetCall),
     Fill(FillCall),
     Planes(PlanesCall),
     Pack(PackCall),
@@ -171,7 +178,7 @@ pub(crate) enum Call {
 }
 
 impl Refused {
-    /// The number that the library replied with, 1 to 14.
+    /// The number that the library replied with, 1 to 15.
     ///
     /// ```
     /// let refused = wentuqis::depth_texture::PlaneLayout::try_new(640, 0, 4).unwrap_err();
@@ -188,6 +195,7 @@ impl fmt::Display for Refused {
         write!(f, "{}: ", self.refusal)?;
         match &self.call {
             Call::Convert(call) => call.explain(self.refusal, f),
+            Call::Set(call) => call.explain(f),
             Call::Fill(call) => call.explain(f),
             Call::Planes(call) => call.explain(self.refusal, f),
             Call::Pack(call) => call.explain(self.refusal, f),
@@ -201,7 +209,7 @@ impl error::Error for Refused {}
 /// The library's reply as a result; `call` is what the text of a refusal is made from.
 ///
 /// # Panics
-/// Panics on a number above 14, which only an archive of another version replies.
+/// Panics on a number above 15, which only an archive of another version replies.
 pub(crate) fn accepted(reply: u32, call: impl FnOnce() -> Call) -> Result<(), Refused> {
     if reply == 0 {
         return Ok(());

@@ -2,7 +2,8 @@
 
 use crate::ffi;
 
-/// Red, green and blue of one BT.601 sample of reduced range.
+/// Red, green and blue of one BT.601 sample of reduced range, by
+/// [`YuvSet::BT601`](crate::pixel_convert::YuvSet::BT601).
 ///
 /// Each byte lies within 1/2 + 1/500 of the exact value. Never refuses.
 ///

@@ -9,7 +9,9 @@ use common::{Numbers, RGB, TO_A8R8G8B8, but, bytes, region};
 use wentuqis::convert::try_d3dcolor_fill_pixel_bytes;
 use wentuqis::depth_texture::PlaneLayout;
 use wentuqis::format::*;
-use wentuqis::pixel_convert::{ConvertRegion, try_convert_region};
+use wentuqis::pixel_convert::{
+    ConvertRegion, YuvSet, try_convert_region, try_convert_region_with_set,
+};
 use wentuqis::planar_yuv::{try_planar_yuv_layout, try_planar_yuv_layout_from_pitch};
 use wentuqis::{Refusal, Refused};
 
@@ -82,6 +84,99 @@ fn planar_shapes() {
     ] {
         assert_eq!(convert_text(32, 12, D3DFMT_NV12, &bad), text);
     }
+}
+
+/// What a conversion of one texel of YUY2 says of BT.709 with some numbers changed.
+fn set_text(change: impl FnOnce(&mut YuvSet)) -> String {
+    let (numbers, one) = (but(YuvSet::BT709, change), region(1, 1, 4, 4));
+    let (format, mut texel) = (D3DFMT_YUY2, bytes(4));
+    let reply = try_convert_region_with_set(
+        &mut texel,
+        D3DFMT_A8R8G8B8,
+        &[16, 128, 16, 128],
+        format,
+        &one,
+        &numbers,
+    );
+    assert_eq!(texel, bytes(4));
+    text(reply)
+}
+
+#[test]
+fn illegal_sets() {
+    type Change = fn(&mut YuvSet);
+    let cases: [(Change, &str); 10] = [
+        (
+            |set| set.luma_gain = 262_144,
+            "the set's luma gain is 262144, and a gain is at most 262143 (65536ths)",
+        ),
+        (
+            |set| set.luma_offset = 4_194_304,
+            "the set's luma offset is 4194304, and it is at most 4194303 (65536ths)",
+        ),
+        (
+            |set| set.v_to_red = 262_144,
+            "the set's v_to_red is 262144, and a gain is at most 262143 (65536ths)",
+        ),
+        (
+            |set| set.u_to_green = 300_000,
+            "the set's u_to_green is 300000, and a gain is at most 262143 (65536ths)",
+        ),
+        (
+            |set| set.v_to_green = u32::MAX,
+            "the set's v_to_green is 4294967295, and a gain is at most 262143 (65536ths)",
+        ),
+        (
+            |set| set.u_to_blue = 262_144,
+            "the set's u_to_blue is 262144, and a gain is at most 262143 (65536ths)",
+        ),
+        (
+            |set| set.chroma_centre = 257,
+            "the set's chroma centre is 257, and it is 255 or 256 (halves)",
+        ),
+        (
+            |set| set.chroma_centre = 128,
+            "the set's chroma centre is 128, and it is 255 or 256 (halves)",
+        ),
+        // of several the first in the order of the set
+        (
+            |set| (set.u_to_blue, set.luma_offset) = (262_144, 4_194_304),
+            "the set's luma offset is 4194304, and it is at most 4194303 (65536ths)",
+        ),
+        (
+            |set| (set.chroma_centre, set.v_to_green) = (254, 262_144),
+            "the set's v_to_green is 262144, and a gain is at most 262143 (65536ths)",
+        ),
+    ];
+    for (change, expected) in cases {
+        assert_eq!(set_text(change), format!("illegal set: {expected}"));
+    }
+}
+
+#[test]
+fn other_refusals_by_a_set() {
+    let good = but(region(4, 2, 4, 16), |r| r.src_slice_pitch = 8);
+    let said = |dst_len, src_len, region: &ConvertRegion| {
+        let (mut dst, src, set) = (bytes(dst_len), bytes(src_len), YuvSet::BT709);
+        let (from, to) = (D3DFMT_NV12, D3DFMT_A8R8G8B8);
+        text(try_convert_region_with_set(
+            &mut dst, to, &src, from, region, &set,
+        ))
+    };
+    assert_eq!(
+        said(32, 12, &but(good, |r| r.depth = 2)),
+        "planar shape: a frame of NV12 has one slice, and the region has depth 2; set it to 1"
+    );
+    assert_eq!(
+        said(32, 11, &good),
+        "source outside: the frame has 11 bytes, the region needs 12; \
+         the first texel outside is column 2, row 0"
+    );
+    assert_eq!(
+        said(31, 12, &good),
+        "destination outside: the destination has 31 bytes, the region needs 32; \
+         the first texel outside is column 3, row 1"
+    );
 }
 
 #[test]
@@ -306,10 +401,12 @@ fn planar_layouts() {
 fn refusals_are_errors() {
     let refused: Box<dyn std::error::Error> = Box::new(PlaneLayout::try_new(1, 0, 4).unwrap_err());
     assert!(refused.to_string().starts_with("zero size"));
-    for number in 1..=14 {
+    for number in 1..=15 {
         let refusal = Refusal::from_number(number).unwrap();
         assert_eq!(refusal.number(), number);
     }
+    assert_eq!(Refusal::from_number(15), Some(Refusal::IllegalSet));
+    assert_eq!(Refusal::from_number(16), None);
 }
 
 /// The number after "the region needs", if the text has one.

@@ -5,6 +5,7 @@
 ghost use mathlib.Core.Path.{_≡_};
 ghost use Prim.Native.Nat.{_≤_, _<_};
 ghost use lib.ListN.{length};
+use yuv_sets::YuvSet;
 
 // Whether a call of this number answers as the record says.
 pub(crate) fn agrees(call: u32, case: &[u8]) -> bool
@@ -125,8 +126,22 @@ fn set_number(case: &[u8], place: usize) -> u32
     words::le32(&case[272 + place * 4..])
 }
 
-// The reply to the conversion with the parameters and the set of a record.
-fn convert_reply_with_set(case: &[u8], src: &[u8], dst: &mut [u8]) -> u32
+fn set_of(case: &[u8]) -> YuvSet
+    requires { ⌜ 512 ≤ length (now case) ⌝ }
+{
+    YuvSet {
+        luma_gain: set_number(case, 0),
+        luma_offset: set_number(case, 1),
+        v_to_red: set_number(case, 2),
+        u_to_green: set_number(case, 3),
+        v_to_green: set_number(case, 4),
+        u_to_blue: set_number(case, 5),
+        chroma_centre: set_number(case, 6),
+    }
+}
+
+// The reply to the conversion with the parameters of a record and a set.
+fn convert_reply_with_set(case: &[u8], numbers: YuvSet, src: &[u8], dst: &mut [u8]) -> u32
     requires { ⌜ 512 ≤ length (now case) ⌝ }
     requires { ⌜ 72 ≤ length (now src) ⌝ }
     requires { ⌜ 72 ≤ length (now dst) ⌝ }
@@ -149,13 +164,13 @@ fn convert_reply_with_set(case: &[u8], src: &[u8], dst: &mut [u8]) -> u32
         size(case, 12),
         size(case, 13),
         size(case, 14),
-        set_number(case, 0),
-        set_number(case, 1),
-        set_number(case, 2),
-        set_number(case, 3),
-        set_number(case, 4),
-        set_number(case, 5),
-        set_number(case, 6),
+        numbers.luma_gain,
+        numbers.luma_offset,
+        numbers.v_to_red,
+        numbers.u_to_green,
+        numbers.v_to_green,
+        numbers.u_to_blue,
+        numbers.chroma_centre,
     )
 }
 
@@ -165,7 +180,7 @@ fn convert_region_with_set(case: &[u8]) -> bool
 {
     let src = area(&case[128..]);
     let mut dst = area(&case[200..]);
-    let reply = convert_reply_with_set(case, &src, &mut dst);
+    let reply = convert_reply_with_set(case, set_of(case), &src, &mut dst);
     (reply != 0) == refused(case) && same(&dst, &case[344..])
 }
 

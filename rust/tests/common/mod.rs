@@ -3,9 +3,12 @@
 
 #![allow(dead_code)] // each test program uses a part
 
-use wentuqis::Refusal;
 use wentuqis::format::*;
-use wentuqis::pixel_convert::{ConvertRegion, convert_region, try_convert_region};
+use wentuqis::pixel_convert::{
+    ConvertRegion, YuvSet, convert_region, convert_region_with_set, try_convert_region,
+    try_convert_region_with_set,
+};
+use wentuqis::{Refusal, Refused};
 
 /// The twelve RGB formats that convert into each other, with their bytes a texel.
 pub const RGB: [(u32, usize); 12] = [
@@ -67,12 +70,37 @@ pub fn converted(
     src_format: u32,
     region: &ConvertRegion,
 ) -> Vec<u8> {
+    both_accept(
+        dst_len,
+        |dst| try_convert_region(dst, dst_format, src, src_format, region),
+        |dst| convert_region(dst, dst_format, src, src_format, region),
+    )
+}
+
+/// The same by a set of numbers.
+pub fn converted_with_set(
+    dst_len: usize,
+    dst_format: u32,
+    src: &[u8],
+    src_format: u32,
+    region: &ConvertRegion,
+    numbers: &YuvSet,
+) -> Vec<u8> {
+    both_accept(
+        dst_len,
+        |dst| try_convert_region_with_set(dst, dst_format, src, src_format, region, numbers),
+        |dst| convert_region_with_set(dst, dst_format, src, src_format, region, numbers),
+    )
+}
+
+fn both_accept(
+    dst_len: usize,
+    with_reason: impl FnOnce(&mut [u8]) -> Result<(), Refused>,
+    without: impl FnOnce(&mut [u8]) -> bool,
+) -> Vec<u8> {
     let (mut dst, mut again) = (bytes(dst_len), bytes(dst_len));
-    let reply = try_convert_region(&mut dst, dst_format, src, src_format, region);
-    assert_eq!(reply, Ok(()));
-    assert!(convert_region(
-        &mut again, dst_format, src, src_format, region
-    ));
+    assert_eq!(with_reason(&mut dst), Ok(()));
+    assert!(without(&mut again));
     assert_eq!(dst, again);
     dst
 }
@@ -87,16 +115,47 @@ pub fn refuses(
     src_format: u32,
     region: &ConvertRegion,
 ) {
-    let (mut dst, src) = (bytes(dst_len), bytes(src_len));
-    let refused =
-        try_convert_region(&mut dst, dst_format, &src, src_format, region).expect_err("refused");
+    both_refuse(
+        refusal,
+        [dst_len, src_len],
+        |dst, src| try_convert_region(dst, dst_format, src, src_format, region),
+        |dst, src| convert_region(dst, dst_format, src, src_format, region),
+    );
+}
+
+/// The same by a set of numbers.
+#[track_caller]
+pub fn refuses_with_set(
+    refusal: Refusal,
+    dst_len: usize,
+    dst_format: u32,
+    src_len: usize,
+    src_format: u32,
+    region: &ConvertRegion,
+    numbers: &YuvSet,
+) {
+    both_refuse(
+        refusal,
+        [dst_len, src_len],
+        |dst, src| try_convert_region_with_set(dst, dst_format, src, src_format, region, numbers),
+        |dst, src| convert_region_with_set(dst, dst_format, src, src_format, region, numbers),
+    );
+}
+
+#[track_caller]
+fn both_refuse(
+    refusal: Refusal,
+    [dst_len, src_len]: [usize; 2],
+    with_reason: impl FnOnce(&mut [u8], &[u8]) -> Result<(), Refused>,
+    without: impl FnOnce(&mut [u8], &[u8]) -> bool,
+) {
+    let (mut dst, mut again, src) = (bytes(dst_len), bytes(dst_len), bytes(src_len));
+    let refused = with_reason(&mut dst, &src).expect_err("refused");
     assert_eq!(refused.refusal, refusal, "{refused}");
     assert_eq!(refused.number(), refusal.number());
-    assert!(!convert_region(
-        &mut dst, dst_format, &src, src_format, region
-    ));
+    assert!(!without(&mut again, &src));
     assert!(
-        dst == bytes(dst_len) && src == bytes(src_len),
+        [dst, again] == [bytes(dst_len), bytes(dst_len)] && src == bytes(src_len),
         "lent bytes are kept"
     );
 }

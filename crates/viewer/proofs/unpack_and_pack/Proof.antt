@@ -1,10 +1,10 @@
--- `wentuqis::unpack_and_pack` meets its contract: by the contracts of the two calls alone. Assumes nothing.
+-- `viewer::unpack_and_pack` meets its contract: by the contracts of the two calls alone. Assumes nothing.
 use denote.Ref.{now}
 use Rattle.depth_texture.specs.Layouts.{layout}
-use Rattle.wentuqis.specs.Viewer.{not-unpacked, packed-back}
+use Rattle.viewer.specs.Viewer.{not-unpacked, packed-back}
 use borrow.Author.Needs.{needs}
-use Rattle.wentuqis.proofs.unpack_and_pack.Statement.{statement}
-use Rattle.wentuqis.proofs.unpack_and_pack.Tie as tie
+use Rattle.viewer.proofs.unpack_and_pack.Statement.{statement}
+use Rattle.viewer.proofs.unpack_and_pack.Tie as tie
 
 wentuqis-unpack-requires : tie.Need-wentuqis-unpack-requires
 wentuqis-unpack-requires c κs = search needs

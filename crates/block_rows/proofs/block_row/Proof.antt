@@ -1,4 +1,4 @@
--- `pixel_convert::block_row` meets its contract: block by block, with both offsets carried. Assumes nothing.
+-- `block_rows::block_row` meets its contract: block by block, with both offsets carried. Assumes nothing.
 use mathlib.Core.Path.{_≡_, refl, sym, ap, _∙_, subst}
 use Prim.Native.Nat.{ℕ, _+_, _*_, _-_, _≤_, _<_, min}
 use native.Mathlib.Nat.{le-antisymm}
@@ -17,8 +17,8 @@ use Rattle.convert_reply.specs.Passed.{convert-rgb}
 use Rattle.regions.specs.Fetch.{any-set}
 use Rattle.regions.specs.Carried.{Carried, read-room, write-room, block-rows, block-texels, block-carried, first-carried, row-read, row-write, lying-row}
 use borrow.Author.Needs.{needs}
-use Rattle.pixel_convert.proofs.block_row.Statement.{statement}
-use Rattle.pixel_convert.proofs.block_row.Tie as tie
+use Rattle.block_rows.proofs.block_row.Statement.{statement}
+use Rattle.block_rows.proofs.block_row.Tie as tie
 
 -- at each block the carried offsets are the ones worked out afresh, and the columns before it are written
 abbrev Inv-loop : tie.InvT-loop

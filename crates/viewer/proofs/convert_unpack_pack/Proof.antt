@@ -1,13 +1,13 @@
--- `wentuqis::convert_unpack_pack` meets its contract: by the contracts of the three calls alone. Assumes nothing.
+-- `viewer::convert_unpack_pack` meets its contract: by the contracts of the three calls alone. Assumes nothing.
 use mathlib.Core.Path.{sym, _∙_, subst}
 use Prim.Native.Nat.{ℕ, _<_}
 use denote.Ref.{now}
 use Rattle.depth_texture.specs.RoundTrip.{unpacked-refused, packed-refused}
 use Rattle.yuv_sets.specs.Sets.{bt601}
-use Rattle.wentuqis.specs.Viewer.{conversion-refused}
+use Rattle.viewer.specs.Viewer.{conversion-refused}
 use borrow.Author.Needs.{needs}
-use Rattle.wentuqis.proofs.convert_unpack_pack.Statement.{statement}
-use Rattle.wentuqis.proofs.convert_unpack_pack.Tie as tie
+use Rattle.viewer.proofs.convert_unpack_pack.Statement.{statement}
+use Rattle.viewer.proofs.convert_unpack_pack.Tie as tie
 
 wentuqis-convert-region-requires : tie.Need-wentuqis-convert-region-requires
 wentuqis-convert-region-requires c κs = search needs
