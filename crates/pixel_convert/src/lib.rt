@@ -1,7 +1,7 @@
 // Conversion of a region of texels from one format into another: the RGB formats into each other, packed and planar YUV into RGB by a
 // set of numbers, and wide, ten-bit, 16-bit and signed formats into A8R8G8B8. What the bytes are and what is promised of them is in the
-// crate `regions`, the reply in `convert_reply`, what texels decode and encode to in `texels`, where they lie in
-// `places`, rows of YUV in `yuv_rows`, rows of all other sources in `block_rows`. Ported from pixel_convert.rs of athei/mtld3d (an altered version, see NOTICE).
+// crate `regions`, the reply in `convert_reply`, what texels decode and encode to in `texels`, where they lie in `places`, rows of YUV in
+// `yuv_rows`, rows of all other sources in `block_rows`. Ported from pixel_convert.rs of athei/mtld3d (an altered version, see NOTICE).
 ghost use mathlib.Core.Path.{_≡_};
 ghost use mathlib.Core.Bool.{false};
 ghost use Prim.Native.Nat.{ℕ, _≤_, _<_};

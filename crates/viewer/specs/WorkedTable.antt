@@ -47,7 +47,7 @@ use Rattle.planar_yuv.specs.Offsets as offsets
 use Rattle.planar_yuv.specs.Answers as answers
 use Rattle.planar_yuv.specs.Offsets.{uOffset, vOffset}
 use Rattle.planar_yuv.specs.Answers.{fromWidth}
-use Rattle.wentuqis.specs.Calls.{regionOf, rgbList, planarValues, planeValues}
+use Rattle.boundary.specs.Calls.{regionOf, rgbList, planarValues, planeValues}
 
 -- a row: the numbers that document 01 prints or means, and the same numbers computed
 pub record Row : Type 0 where

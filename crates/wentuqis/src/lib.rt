@@ -1,11 +1,11 @@
-// The library that Rust and C link: each public call under its plain name. A reply of 0 is acceptance, any other number is the
-// refusal of document 01, or 15 of document 02. Nothing is asked of a caller that Rattle can see: every input has its reply, a refused call leaves
-// every lent byte as it was, and what is handed back is then zero.
+// The library that Rust and C link: each public call under its plain name. A reply of 0 is acceptance, any other number is a
+// refusal: 1 to 14 of document 01, 15 of document 02. Nothing is asked of a caller that Rattle can see: every input has its reply, a
+// refused call leaves every lent byte as it was, and what is handed back is then zero.
 ghost use mathlib.Core.Path.{_≡_};
 ghost use mathlib.Core.List.{[], _∷_};
 ghost use Prim.Native.Nat.{_≤_, _<_};
 ghost use lib.ListN.{length, getD};
-ghost use Rattle.planar_yuv.specs.Answers.{replyOf, fromPitch, fromWidth};
+ghost use Rattle.planar_yuv.specs.Answers.{fromPitch, fromWidth};
 ghost use Rattle.yuv_sets.specs.Sets.{bt601};
 ghost use Rattle.stretch_rect.specs.Yuv.{rgbOf, RgbNear, decimalUnit, decimalSlack, redDecimal, greenDecimal, blueDecimal};
 ghost use Rattle.convert_reply.specs.Replies.{canConvert, canConvertUpdate, replyWith, convertReply, replyNumber};
@@ -14,20 +14,15 @@ ghost use Rattle.formats.specs.Table.{bytesOf};
 ghost use Rattle.formats.specs.Lanes.{red, green, blue, alpha};
 ghost use Rattle.binary16.specs.Half.{halfOf, HalfOf};
 ghost use Rattle.convert.specs.Color.{byteOf, unormOf};
-ghost use Rattle.convert.specs.Fill as fills;
 ghost use Rattle.convert.specs.Fill.{fillOf};
 ghost use Rattle.splat.specs.Splat.{Splat};
-ghost use Rattle.depth_texture.specs.Layouts.{layout, layoutRefusal, layoutFor, answerNumber, answerLayout, Stands, Pitches};
+ghost use Rattle.depth_texture.specs.Layouts.{layout, layoutRefusal, layoutFor, Stands, Pitches};
 ghost use Rattle.depth_texture.specs.Replies.{refusalOf};
 ghost use Rattle.depth_texture.specs.Planes.{unpackedDepth, unpackedStencil, packedBuffer};
 ghost use Rattle.depth_pixels.specs.Pixels.{KeepsAll};
 ghost use Rattle.depth_texture.specs.Promises.{Restores, PlanesKept, SameElsewhere, NearestCodes};
-ghost use Rattle.wentuqis.specs.Calls.{regionOf, setOf, rgbList, colourIn, planarValues, PlanesApart, planeValues, planesIn};
-use convert::FillReply;
-use convert_reply::ConvertRegion;
+ghost use Rattle.boundary.specs.Calls.{regionOf, setOf, rgbList, colourIn, planarValues, PlanesApart, planeValues, planesIn};
 use depth_texture::PlaneLayout;
-use depth_texture::PlaneLayoutAnswer;
-use planar_yuv::PlanarYuvAnswer;
 use yuv_sets::YuvSet;
 
 // ---- conversion
@@ -46,37 +41,6 @@ pub extern "C" fn wentuqis_can_convert_update(src_format: u32, dst_format: u32) 
     ensures { λ r. ⌜ r ≡ canConvertUpdate «src_format» «dst_format» ⌝ }
 {
     convert_reply::can_convert_update(src_format, dst_format)
-}
-
-// The region of a conversion, from its numbers.
-fn region_of(
-    src_x: u32,
-    src_y: u32,
-    dst_x: u32,
-    dst_y: u32,
-    width: u32,
-    height: u32,
-    src_pitch: usize,
-    dst_pitch: usize,
-    src_slice_pitch: usize,
-    dst_slice_pitch: usize,
-    depth: usize,
-) -> ConvertRegion
-    ensures { λ r. ⌜ r ≡ regionOf «src_x» «src_y» «dst_x» «dst_y» width height «src_pitch» «dst_pitch» «src_slice_pitch» «dst_slice_pitch» depth ⌝ }
-{
-    ConvertRegion {
-        src_x: src_x,
-        src_y: src_y,
-        dst_x: dst_x,
-        dst_y: dst_y,
-        width: width,
-        height: height,
-        src_pitch: src_pitch,
-        dst_pitch: dst_pitch,
-        src_slice_pitch: src_slice_pitch,
-        dst_slice_pitch: dst_slice_pitch,
-        depth: depth,
-    }
 }
 
 // Refusals 1 to 4.
@@ -103,7 +67,7 @@ pub extern "C" fn wentuqis_convert_region(
     ensures near { λ _. ⌜ NearSource (now (src .entry)) (now (dst .entry)) (now (dst .exit)) «src_format» «dst_format» (regionOf «src_x» «src_y» «dst_x» «dst_y» width height «src_pitch» «dst_pitch» «src_slice_pitch» «dst_slice_pitch» depth) ⌝ }
     ensures kept { λ _. ⌜ OthersKept (now (dst .entry)) (now (dst .exit)) «dst_format» (regionOf «src_x» «src_y» «dst_x» «dst_y» width height «src_pitch» «dst_pitch» «src_slice_pitch» «dst_slice_pitch» depth) ⌝ }
 {
-    let region = region_of(
+    let region = boundary::region_of(
         src_x,
         src_y,
         dst_x,
@@ -152,7 +116,7 @@ pub extern "C" fn wentuqis_convert_region_with_set(
     ensures own { λ _. ⌜ OwnWith (setOf «luma_gain» «luma_offset» «v_to_red» «u_to_green» «v_to_green» «u_to_blue» «chroma_centre») (now (src .entry)) (now (dst .entry)) (now (dst .exit)) «src_format» «dst_format» (regionOf «src_x» «src_y» «dst_x» «dst_y» width height «src_pitch» «dst_pitch» «src_slice_pitch» «dst_slice_pitch» depth) ⌝ }
     ensures kept { λ _. ⌜ OthersKept (now (dst .entry)) (now (dst .exit)) «dst_format» (regionOf «src_x» «src_y» «dst_x» «dst_y» width height «src_pitch» «dst_pitch» «src_slice_pitch» «dst_slice_pitch» depth) ⌝ }
 {
-    let region = region_of(
+    let region = boundary::region_of(
         src_x,
         src_y,
         dst_x,
@@ -199,28 +163,6 @@ pub extern "C" fn wentuqis_yuv_to_rgb8(luma: u8, cb: u8, cr: u8, rgb: &mut [u8; 
 
 // ---- planar layouts
 
-// The values of an answer, and its number.
-fn put_planar(answer: PlanarYuvAnswer, layout: &mut [u64; 4]) -> u32
-    ensures reply { λ r. ⌜ r ≡ replyOf answer .number ⌝ }
-    ensures values { λ _. ⌜ now (layout .exit) ≡ planarValues (replyOf answer) ⌝ }
-{
-    match answer {
-        PlanarYuvAnswer::Layout(l) => {
-            *layout = [
-                l.pitch as u64,
-                l.luma_rows as u64,
-                l.chroma_rows as u64,
-                l.total_bytes as u64,
-            ];
-            0
-        }
-        PlanarYuvAnswer::Refused => {
-            *layout = [0, 0, 0, 0];
-            14
-        }
-    }
-}
-
 // Refusal 14. The values are pitch, luma rows, chroma rows and total bytes.
 #[no_mangle]
 pub extern "C" fn wentuqis_planar_yuv_layout(
@@ -234,7 +176,7 @@ pub extern "C" fn wentuqis_planar_yuv_layout(
     ensures planes { λ r. ⌜ (r ≡ 0 → PlanesApart format (now (layout .exit))) ⌝ }
     ensures rows { λ r. ⌜ (r ≡ 0 → width ≤ getD (now (layout .exit)) 0 0) ⌝ }
 {
-    put_planar(planar_yuv::planar_yuv_layout(format, width, height), layout)
+    boundary::put_planar(planar_yuv::planar_yuv_layout(format, width, height), layout)
 }
 
 // Refusal 14. The values are pitch, luma rows, chroma rows and total bytes.
@@ -249,22 +191,13 @@ pub extern "C" fn wentuqis_planar_yuv_layout_from_pitch(
     ensures values { λ _. ⌜ now (layout .exit) ≡ planarValues (fromPitch format pitch «luma_rows») ⌝ }
     ensures planes { λ r. ⌜ (r ≡ 0 → PlanesApart format (now (layout .exit))) ⌝ }
 {
-    put_planar(
+    boundary::put_planar(
         planar_yuv::planar_yuv_layout_from_pitch(format, pitch, luma_rows),
         layout,
     )
 }
 
 // ---- fills
-
-fn fill_number(reply: FillReply) -> u32
-    ensures { λ r. ⌜ r ≡ fills.replyNumber reply ⌝ }
-{
-    match reply {
-        FillReply::Filled => 0,
-        FillReply::NoFill => 5,
-    }
-}
 
 // Refusal 5. The pixel's bytes come first, zeros after them.
 #[no_mangle]
@@ -283,7 +216,7 @@ pub extern "C" fn wentuqis_d3dcolor_fill_pixel_bytes(
     *bytes = pixel;
     *length = p.len as u32;
     let reply = p.reply;
-    fill_number(reply)
+    boundary::fill_number(reply)
 }
 
 // No refusal: byte i becomes byte i mod n of a pattern of n bytes; an empty pattern leaves every byte.
@@ -313,36 +246,6 @@ pub extern "C" fn wentuqis_d3dcolor_to_rgba_f32(color: u32, rgba: &mut [f32; 4])
 
 // ---- depth
 
-// The values of an answer, and its number.
-fn put_planes(answer: PlaneLayoutAnswer, layout: &mut [u64; 4]) -> u32
-    ensures reply { λ r. ⌜ r ≡ answerNumber answer ⌝ }
-    ensures values { λ _. ⌜ now (layout .exit) ≡ planeValues (answerLayout answer) ⌝ }
-{
-    match answer {
-        PlaneLayoutAnswer::Layout(l) => {
-            *layout = [
-                l.width as u64,
-                l.height as u64,
-                l.depth_pitch as u64,
-                l.stencil_pitch as u64,
-            ];
-            0
-        }
-        PlaneLayoutAnswer::ZeroSize => {
-            *layout = [0, 0, 0, 0];
-            6
-        }
-        PlaneLayoutAnswer::NoPowerOfTwo => {
-            *layout = [0, 0, 0, 0];
-            7
-        }
-        PlaneLayoutAnswer::Over64Bits => {
-            *layout = [0, 0, 0, 0];
-            8
-        }
-    }
-}
-
 // Refusals 6 to 8. The values are width, height, depth pitch and stencil pitch.
 #[no_mangle]
 pub extern "C" fn wentuqis_plane_layout(
@@ -356,7 +259,7 @@ pub extern "C" fn wentuqis_plane_layout(
     ensures stands { λ r. ⌜ (r ≡ 0 → Stands (planesIn (now (layout .exit)))) ⌝ }
     ensures pitches { λ r. ⌜ (r ≡ 0 → Pitches width alignment (planesIn (now (layout .exit)))) ⌝ }
 {
-    put_planes(PlaneLayout::new(width, height, alignment), layout)
+    boundary::put_planes(PlaneLayout::new(width, height, alignment), layout)
 }
 
 // Refusals 9 to 13.

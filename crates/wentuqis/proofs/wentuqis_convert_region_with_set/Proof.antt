@@ -7,7 +7,7 @@ use Rattle.yuv_sets.specs.declared.YuvSet.{YuvSet}
 use Rattle.convert_reply.specs.declared.ConvertRegion.{ConvertRegion}
 use Rattle.convert_reply.specs.Replies.{replyWith, replyNumber}
 use Rattle.regions.specs.Regions.{convertedWith, NearWith, OwnWith, OthersKept}
-use Rattle.wentuqis.specs.Calls.{setOf}
+use Rattle.boundary.specs.Calls.{setOf}
 use borrow.Author.Needs.{needs}
 use Rattle.wentuqis.proofs.wentuqis_convert_region_with_set.Statement.{statement}
 use Rattle.wentuqis.proofs.wentuqis_convert_region_with_set.Tie as tie

@@ -4,7 +4,7 @@ use mathlib.Core.List.{List}
 use Prim.Native.Nat.{ℕ, _≤_}
 use lib.ListN.{getD}
 use Rattle.planar_yuv.specs.Answers.{Reply, planes-given, rows-given}
-use Rattle.wentuqis.specs.Calls.{planarValues, PlanesApart}
+use Rattle.boundary.specs.Calls.{planarValues, PlanesApart}
 use borrow.Author.Needs.{needs}
 use Rattle.wentuqis.proofs.wentuqis_planar_yuv_layout.Statement.{statement}
 use Rattle.wentuqis.proofs.wentuqis_planar_yuv_layout.Tie as tie

@@ -1,7 +1,7 @@
 -- `wentuqis::wentuqis_planar_yuv_layout_from_pitch` meets its contract: the inner call's answer, in document 01's numbers. Assumes nothing.
 use mathlib.Core.Path.{sym, ap, _∙_, subst}
 use Rattle.planar_yuv.specs.Answers.{Reply, planes-given}
-use Rattle.wentuqis.specs.Calls.{planarValues, PlanesApart}
+use Rattle.boundary.specs.Calls.{planarValues, PlanesApart}
 use borrow.Author.Needs.{needs}
 use Rattle.wentuqis.proofs.wentuqis_planar_yuv_layout_from_pitch.Statement.{statement}
 use Rattle.wentuqis.proofs.wentuqis_planar_yuv_layout_from_pitch.Tie as tie

@@ -3,7 +3,7 @@ use mathlib.Core.Path.{sym, ap, _∙_, subst}
 use mathlib.Core.List.{List}
 use Prim.Native.Nat.{ℕ}
 use Rattle.depth_texture.specs.Layouts.{Stands, Pitches}
-use Rattle.wentuqis.specs.Calls.{planeValues, planesIn}
+use Rattle.boundary.specs.Calls.{planeValues, planesIn}
 use borrow.Author.Needs.{needs}
 use Rattle.wentuqis.proofs.wentuqis_plane_layout.Statement.{statement}
 use Rattle.wentuqis.proofs.wentuqis_plane_layout.Tie as tie

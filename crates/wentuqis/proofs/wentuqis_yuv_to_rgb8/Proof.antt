@@ -1,6 +1,6 @@
 -- `wentuqis::wentuqis_yuv_to_rgb8` meets its contract: the inner call's colour, byte by byte. Assumes nothing.
 use mathlib.Core.Path.{ap}
-use Rattle.wentuqis.specs.Calls.{rgbList}
+use Rattle.boundary.specs.Calls.{rgbList}
 use borrow.Author.Needs.{needs}
 use Rattle.wentuqis.proofs.wentuqis_yuv_to_rgb8.Statement.{statement}
 use Rattle.wentuqis.proofs.wentuqis_yuv_to_rgb8.Tie as tie

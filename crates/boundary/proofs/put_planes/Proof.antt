@@ -1,10 +1,10 @@
--- `wentuqis::put_planes` meets its contract: by the four answers. Assumes nothing.
+-- `boundary::put_planes` meets its contract: by the four answers. Assumes nothing.
 use mathlib.Core.Path.{sym, ap}
 use Rattle.depth_texture.specs.Layouts.{answerNumber, answerLayout}
-use Rattle.wentuqis.specs.Calls.{planeValues}
+use Rattle.boundary.specs.Calls.{planeValues}
 use borrow.Author.Needs.{needs}
-use Rattle.wentuqis.proofs.put_planes.Statement.{statement}
-use Rattle.wentuqis.proofs.put_planes.Tie as tie
+use Rattle.boundary.proofs.put_planes.Statement.{statement}
+use Rattle.boundary.proofs.put_planes.Tie as tie
 
 enum-known-answer : tie.Need-enum-known-answer
 enum-known-answer c = search needs

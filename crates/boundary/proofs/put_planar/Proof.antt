@@ -1,10 +1,10 @@
--- `wentuqis::put_planar` meets its contract: by the two answers. Assumes nothing.
+-- `boundary::put_planar` meets its contract: by the two answers. Assumes nothing.
 use mathlib.Core.Path.{sym, ap}
 use Rattle.planar_yuv.specs.Answers.{replyOf}
-use Rattle.wentuqis.specs.Calls.{planarValues}
+use Rattle.boundary.specs.Calls.{planarValues}
 use borrow.Author.Needs.{needs}
-use Rattle.wentuqis.proofs.put_planar.Statement.{statement}
-use Rattle.wentuqis.proofs.put_planar.Tie as tie
+use Rattle.boundary.proofs.put_planar.Statement.{statement}
+use Rattle.boundary.proofs.put_planar.Tie as tie
 
 enum-known-answer : tie.Need-enum-known-answer
 enum-known-answer c = search needs
