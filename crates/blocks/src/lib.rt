@@ -48,7 +48,7 @@ fn read_block(
     let mut off = from;
     let mut i: usize = 0;
     while i < n {
-        block[i] = texels::read_word(d3d_format, &src[off..]);
+        block[i] = texel_words::read_word(d3d_format, &src[off..]);
         off += step;
         i += 1;
     }
@@ -62,7 +62,7 @@ fn read_r8g8b8(block: &mut [u32], n: usize, src: &[u8], from: usize) -> usize
 {
     let last = n - 1;
     let off = read_block(block, last, src, D3DFMT_X8R8G8B8, 3, from);
-    block[last] = texels::read_word(D3DFMT_R8G8B8, &src[off..]);
+    block[last] = texel_words::read_word(D3DFMT_R8G8B8, &src[off..]);
     off + 3
 }
 
@@ -114,7 +114,7 @@ fn write_block(
     let mut off = to;
     let mut i: usize = 0;
     while i < n {
-        texels::write_word(d3d_format, block[i], &mut dst[off..]);
+        texel_words::write_word(d3d_format, block[i], &mut dst[off..]);
         off += size;
         i += 1;
     }
@@ -164,7 +164,7 @@ fn rewrite_block(
     let mut i: usize = 0;
     while i < n {
         let word = words::le32(&src[at..]);
-        texels::write_word(d3d_format, word, &mut dst[place..]);
+        texel_words::write_word(d3d_format, word, &mut dst[place..]);
         at += 4;
         place += size;
         i += 1;

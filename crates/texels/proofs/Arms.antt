@@ -1,15 +1,14 @@
--- An arm of the decoder's and the encoder's dispatch: the format is the arm's code, its bytes are read or stored as one word.
+-- An arm of the decoder's dispatch: the format is the arm's code, its bytes are read as one word.
 -- Assumes nothing.
-use mathlib.Core.Path.{_≡_, sym, ap, ap₂, _∙_, subst}
+use mathlib.Core.Path.{_≡_, sym, ap, _∙_, subst}
 use mathlib.Core.List.{List}
 use Prim.Native.Nat.{ℕ, _/_}
 use native.Mathlib.Nat.{div-one}
 use lib.ListN.{take}
-use lib.Seq.{sets}
-use Rattle.words.specs.Little.{number, bytes}
+use Rattle.words.specs.Little.{number}
 use Rattle.formats.specs.Table.{bytesOf}
 use Rattle.texels.specs.declared.Texel.{Texel}
-use Rattle.texels.specs.Texels.{decodedOf, encodedOf, encodedBytes}
+use Rattle.texels.specs.Texels.{decodedOf}
 
 pub decode-arm : (f k n v : ℕ) (l : List ℕ) (t : Texel) → f ≡ k → bytesOf k ≡ n → v ≡ number (take n l) → t ≡ decodedOf k v → t ≡ decodedOf f (number (take (bytesOf f) l))
 decode-arm f k n v l t e b r d =
@@ -17,10 +16,6 @@ decode-arm f k n v l t e b r d =
   where
     refl : decodedOf k (number (take (bytesOf k) l)) ≡ decodedOf k (number (take (bytesOf k) l))
     refl = λ i. decodedOf k (number (take (bytesOf k) l))
-
-pub encode-arm : (f k n v : ℕ) (l out : List ℕ) (t : Texel) → f ≡ k → bytesOf k ≡ n → v ≡ encodedOf k t → out ≡ sets l 0 (bytes n v) → out ≡ sets l 0 (encodedBytes f t)
-unfolding encodedBytes
-encode-arm f k n v l out t e b w o = o ∙ ap₂ (λ m u. sets l 0 (bytes m u)) (sym b) w ∙ ap (λ g. sets l 0 (bytes (bytesOf g) (encodedOf g t))) (sym e)
 
 -- the lowest lane is read with no shift
 pub unshifted : (read : ℕ → ℕ) (v : ℕ) → read v ≡ read (v / 1)

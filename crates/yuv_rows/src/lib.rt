@@ -109,7 +109,7 @@ pub fn texel_row(
             sy,
             sx + col,
         );
-        texels::encode_rgb_pixel(dst_format, t, &mut dst[to..]);
+        texel_words::encode_rgb_pixel(dst_format, t, &mut dst[to..]);
         to += to_size;
         col += 1;
     }
