@@ -127,7 +127,7 @@ enum {
 #define WENTUQIS_BT601 76284, 1052836, 104595, 25690, 53281, 132186, 255
 #define WENTUQIS_BT709 76284, 1048576, 117506, 13959, 34931, 138412, 256
 
-/* Whether wentuqis_convert_region, by any set, takes this pair: the twelve RGB formats into each other, the four YUV
+/* Whether a conversion, by whatever set, takes this pair: the twelve RGB formats into each other, the four YUV
  * formats into these, the two wide formats and the six from A2B10G10R10 to L16 into A8R8G8B8. */
 bool wentuqis_can_convert(uint32_t src_format, uint32_t dst_format);
 

@@ -25,7 +25,7 @@ use crate::refusal::{Call, Refusal, Refused, accepted};
 
 pub use crate::shapes::{ConvertRegion, YuvSet};
 
-/// Whether [`convert_region`], by any set, converts this source format into this destination format.
+/// Whether a conversion, by whatever set, takes this source format into this destination format.
 ///
 /// Never refuses. Unlike the original it is no `const fn`.
 ///

@@ -11,7 +11,8 @@ use Rattle.words.specs.Tests.{pick}
 use Rattle.formats.specs.Codes.{A8R8G8B8}
 use Rattle.formats.specs.Classes.{isConvertibleRgb, isPackedYuv, isPlanarYuv, isYuv, isArgbSource, isLaneSource}
 use Rattle.yuv_sets.specs.declared.YuvSet.{YuvSet}
-use Rattle.yuv_sets.specs.Sets.{isLegal}
+use Rattle.yuv_sets.specs.Sets.{isLegal, bt601}
+use Rattle.yuv_sets.specs.Legal.{bt601-legal}
 use Rattle.convert_reply.specs.declared.ConvertRegion.{ConvertRegion}
 use Rattle.convert_reply.specs.declared.ConvertReply.{ConvertReply}
 use Rattle.convert_reply.specs.declared.ConvertReply.the-variants.{Accepted, Unsupported, PlanarShape, SourceOutside, DestinationOutside, IllegalSet}
@@ -94,6 +95,16 @@ pub as-before : (numbers : YuvSet) (s d : ℕ) (r : ConvertRegion) (n m : ℕ) �
     ≡ pick (not (canConvert s d)) Unsupported (pick (badPlanarShape s r) PlanarShape (pick (isEmpty r) Accepted (pick (not (sourceInside n s r)) SourceOutside (pick (not (destinationInside m d r)) DestinationOutside Accepted))))
 unfolding replyTo
 as-before numbers s d r n m h = rw h refl
+
+-- so is the reply by bt601
+pub bt601-reply : (s d : ℕ) (r : ConvertRegion) (n m : ℕ)
+    → replyTo bt601 s d r n m
+    ≡ pick (not (canConvert s d)) Unsupported (pick (badPlanarShape s r) PlanarShape (pick (isEmpty r) Accepted (pick (not (sourceInside n s r)) SourceOutside (pick (not (destinationInside m d r)) DestinationOutside Accepted))))
+bt601-reply s d r n m = as-before bt601 s d r n m (legal-fits bt601 s bt601-legal)
+
+-- of a source that is no YUV the set is not looked at
+pub any-reply : (a b : YuvSet) (s d : ℕ) (r : ConvertRegion) (n m : ℕ) → isYuv s ≡ false → replyTo a s d r n m ≡ replyTo b s d r n m
+any-reply a b s d r n m h = as-before a s d r n m (other-fits a s h) ∙ sym (as-before b s d r n m (other-fits b s h))
 
 -- ---- a YUV source that is accepted comes with a legal set
 pub legal-of : (numbers : YuvSet) (s : ℕ) → isYuv s ≡ true → illegalSet s numbers ≡ false → isLegal numbers ≡ true

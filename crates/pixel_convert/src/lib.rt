@@ -14,7 +14,7 @@ use convert_reply::ConvertRegion;
 use convert_reply::ConvertReply;
 use yuv_sets::YuvSet;
 
-// A row of any source; its own set of numbers is a YUV row's.
+// A row of any source; only a row of YUV uses the set.
 fn convert_row(
     numbers: YuvSet,
     block: &mut [u32],

@@ -1,5 +1,5 @@
 -- The source texel by the kind of its picture, and what an offset that is worked out afresh stays below. Assumes nothing.
-use mathlib.Core.Path.{_≡_, refl, sym, ap, _∙_}
+use mathlib.Core.Path.{_≡_, refl, sym, ap, ap₂, _∙_}
 use mathlib.Core.Bool.{Bool, true, false, _&&_, _||_, false≢true}
 use mathlib.Core.List.{List, [], _∷_}
 use Prim.Native.Nat.{ℕ, _+_, _/_, _%_, _≤_, _<_}
@@ -23,9 +23,11 @@ use Rattle.stretch_rect.specs.Yuv.{rgbOf}
 use Rattle.stretch_rect.specs.Samples.{lumaPlace, uPlace, vPlace, packedRgb, planarRgb, Readable}
 use Rattle.texels.specs.Texels.{decodedOf, encodedBytes}
 use Rattle.convert_reply.specs.declared.ConvertRegion.{ConvertRegion}
+use Rattle.convert_reply.specs.Replies.{ifAccepted}
+use Rattle.convert_reply.specs.Passed.{any-reply}
 use Rattle.places.specs.Places.{absent, offsets, run, texelStart, layoutPlaces, planarPlaces, placesAt, placesIn, bytesAt}
 use Rattle.places.specs.Inside.{lane-places, packed-places, planar-places, bytes-run}
-use Rattle.regions.specs.Regions.{lumaOf, uOf, vOf, opaqueOf, texelOf, texelAt, toAt, sourceTexel, written, rowWritten}
+use Rattle.regions.specs.Regions.{lumaOf, uOf, vOf, opaqueOf, texelOf, texelAt, toAt, sourceTexel, written, rowWritten, sliceWritten, regionWritten, convertedWith}
 
 no-yuv : (f : ℕ) → isPlanarYuv f ≡ false → isPackedYuv f ≡ false → isYuv f ≡ false
 no-yuv f p q = ap (λ b. b || isPlanarYuv f) q ∙ p
@@ -55,19 +57,29 @@ module _ (numbers : YuvSet) (src : List ℕ) (f pitch slice-pitch z y x : ℕ) w
   unfolding texelAt
   planar-texel p = ap (λ l. texelOf numbers f (eqb (x % 2) 1) (bytesAt src l)) (planar-places f pitch slice-pitch z y x p)
 
--- ---- a source with lanes has no use for the set
+-- ---- a source that is no YUV has no use for the set
 any-texel : (a b : YuvSet) (f : ℕ) (odd : Bool) (bs : List ℕ) → isYuv f ≡ false → texelOf a f odd bs ≡ texelOf b f odd bs
 unfolding texelOf
 any-texel a b f odd bs h =
     ap (λ t. pick t (opaqueOf (rgbOf a (lumaOf f odd bs) (uOf f bs) (vOf f bs))) (decodedOf f (number bs))) h
     ∙ sym (ap (λ t. pick t (opaqueOf (rgbOf b (lumaOf f odd bs) (uOf f bs) (vOf f bs))) (decodedOf f (number bs))) h)
 
-pub any-set : (a b : YuvSet) (src : List ℕ) (s d : ℕ) (r : ConvertRegion) (z row : ℕ) (dst : List ℕ) → isLaneSource s ≡ true
-    → rowWritten a src s d r z row dst ≡ rowWritten b src s d r z row dst
+any-row : (a b : YuvSet) (src : List ℕ) (s d : ℕ) (r : ConvertRegion) (z row : ℕ) (dst : List ℕ) → isYuv s ≡ false → rowWritten a src s d r z row dst ≡ rowWritten b src s d r z row dst
 unfolding rowWritten written sourceTexel texelAt
-any-set a b src s d r z row dst h =
+any-row a b src s d r z row dst h =
     iterate-same _ _ (r .width) dst
-    (λ col l w. ap (λ t. sets w (toAt d r z row col) (encodedBytes d t)) (any-texel a b s _ (bytesAt src (placesAt s (r .«src_pitch») (r .«src_slice_pitch») z (r .«src_y» + row) (r .«src_x» + col))) (no-yuv s (lane-only s h .0) (lane-only s h .1))))
+    (λ col l w. ap (λ t. sets w (toAt d r z row col) (encodedBytes d t)) (any-texel a b s _ (bytesAt src (placesAt s (r .«src_pitch») (r .«src_slice_pitch») z (r .«src_y» + row) (r .«src_x» + col))) h))
+
+-- so has a row of a source with lanes
+pub any-set : (a b : YuvSet) (src : List ℕ) (s d : ℕ) (r : ConvertRegion) (z row : ℕ) (dst : List ℕ) → isLaneSource s ≡ true → rowWritten a src s d r z row dst ≡ rowWritten b src s d r z row dst
+any-set a b src s d r z row dst h = any-row a b src s d r z row dst (no-yuv s (lane-only s h .0) (lane-only s h .1))
+
+-- and a whole conversion
+pub set-unlooked : (a b : YuvSet) (src dst : List ℕ) (s d : ℕ) (r : ConvertRegion) → isYuv s ≡ false → convertedWith a src dst s d r ≡ convertedWith b src dst s d r
+unfolding convertedWith regionWritten sliceWritten
+set-unlooked a b src dst s d r h =
+    ap₂ (λ q l. ifAccepted q l dst) (any-reply a b s d r (length src) (length dst) h)
+    (iterate-same _ _ (r .depth) dst (λ z zl l. iterate-same _ _ (r .height) l (λ row rl w. any-row a b src s d r z row w h)))
 
 -- ---- YUV samples
 place-lt : (a b : Bool) → (pick a (pick b 2 0) (pick b 3 1) < 4) × (pick a 1 0 < 4) × (pick a 3 2 < 4)

@@ -1,6 +1,6 @@
 -- What the contracts cite, and laws that other crates cite.
 pub mod Regions
-pub mod Own
+pub mod Stored
 pub mod Promises
 pub mod Fetch
 pub mod Rows

@@ -34,7 +34,7 @@ use Rattle.places.specs.Places.{Places, absent, offsets, bytesFrom, bytesAt}
 use Rattle.places.specs.Inside.{inside-at, texel-fits, lane-ends}
 use Rattle.convert_reply.specs.Replies.{isEmpty, destinationInside, replyTo, ifAccepted}
 use Rattle.regions.specs.Regions.{lumaOf, uOf, vOf, opaqueOf, texelOf, clampedValues, yuvValues, valuesOf, texelAt, exactAt, toAt, sourceBytes, oddAt, sourceTexel, sourceValues, regionWritten, convertedWith, InRegion, Disjoint, NearWith, HoldsByte, HoldsColour, OwnWith, OthersKept}
-use Rattle.regions.specs.Own.{region-other, region-own}
+use Rattle.regions.specs.Stored.{region-other, region-own}
 use Rattle.convert_reply.specs.Passed.{convert-rgb, passed}
 
 -- ---- a region with a texel

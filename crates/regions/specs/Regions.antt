@@ -29,13 +29,15 @@ use Rattle.places.specs.Places.{texelStart, placesAt, bytesAt}
 use Rattle.convert_reply.specs.Replies.{replyWith, ifAccepted}
 
 -- ---- the texel of a source
--- where luma, U and V stand in a YUV texel's bytes: in a macropixel by its format, in a planar texel in that order
+-- a YUV texel's luma: in a macropixel it stands by format and column, in a planar texel's bytes first
 abbrev pub lumaOf : (f : ℕ) (odd : Bool) (texel : List ℕ) → ℕ
 lumaOf f odd bs = getD bs (pick (isPackedYuv f) (lumaPlace f odd) 0) 0
 
+-- its U: in a macropixel by format, in a planar texel's bytes second
 abbrev pub uOf : (f : ℕ) (texel : List ℕ) → ℕ
 uOf f bs = getD bs (pick (isPackedYuv f) (uPlace f) 1) 0
 
+-- its V: in a macropixel by format, in a planar texel's bytes third
 abbrev pub vOf : (f : ℕ) (texel : List ℕ) → ℕ
 vOf f bs = getD bs (pick (isPackedYuv f) (vPlace f) 2) 0
 
@@ -62,10 +64,11 @@ yuvValues numbers y u v =
 unfoldable pub valuesOf : YuvSet → (f : ℕ) (odd : Bool) (bytes : List ℕ) → Values
 valuesOf numbers f odd bs = pick (isYuv f) (yuvValues numbers (lumaOf f odd bs) (uOf f bs) (vOf f bs)) (exactOf f (number bs))
 
--- the source texel at slice z, row y, column x, and its exact values
+-- the source texel at slice z, row y, column x
 unfoldable pub texelAt : YuvSet → (src : List ℕ) (f pitch slice-pitch z y x : ℕ) → Texel
 texelAt numbers src f pitch slice-pitch z y x = texelOf numbers f (eqb (x % 2) 1) (bytesAt src (placesAt f pitch slice-pitch z y x))
 
+-- its exact values
 unfoldable pub exactAt : YuvSet → (src : List ℕ) (f pitch slice-pitch z y x : ℕ) → Values
 exactAt numbers src f pitch slice-pitch z y x = valuesOf numbers f (eqb (x % 2) 1) (bytesAt src (placesAt f pitch slice-pitch z y x))
 
@@ -74,17 +77,19 @@ exactAt numbers src f pitch slice-pitch z y x = valuesOf numbers f (eqb (x % 2) 
 unfoldable pub toAt : (d : ℕ) → ConvertRegion → (z row col : ℕ) → ℕ
 toAt d r z row col = texelStart (r .«dst_pitch») (r .«dst_slice_pitch») (bytesOf d) z (r .«dst_y» + row) (r .«dst_x» + col)
 
--- the bytes of the source texel at (z, row, col) of a region, and whether its column is odd
+-- the bytes of the source texel at (z, row, col) of a region
 unfoldable pub sourceBytes : (src : List ℕ) (s : ℕ) → ConvertRegion → (z row col : ℕ) → List ℕ
 sourceBytes src s r z row col = bytesAt src (placesAt s (r .«src_pitch») (r .«src_slice_pitch») z (r .«src_y» + row) (r .«src_x» + col))
 
+-- whether its column is odd
 abbrev pub oddAt : ConvertRegion → (col : ℕ) → Bool
 oddAt r col = eqb ((r .«src_x» + col) % 2) 1
 
--- the source texel at (z, row, col) of a region, and its exact values
+-- the source texel at (z, row, col) of a region
 unfoldable pub sourceTexel : YuvSet → (src : List ℕ) (s : ℕ) → ConvertRegion → (z row col : ℕ) → Texel
 sourceTexel numbers src s r z row col = texelAt numbers src s (r .«src_pitch») (r .«src_slice_pitch») z (r .«src_y» + row) (r .«src_x» + col)
 
+-- its exact values
 unfoldable pub sourceValues : YuvSet → (src : List ℕ) (s : ℕ) → ConvertRegion → (z row col : ℕ) → Values
 sourceValues numbers src s r z row col = exactAt numbers src s (r .«src_pitch») (r .«src_slice_pitch») z (r .«src_y» + row) (r .«src_x» + col)
 
@@ -146,13 +151,13 @@ abbrev pub HoldsByte : Lane → (word : ℕ) → ℤ → Type 0
 HoldsByte nowhere w z = Unit {0}
 HoldsByte (at low n k) w z = n ≡ 8 → ByteNear setUnit setSlack z (codeAt low n w)
 
--- each colour of a word lies so near to what the set's own numbers define of a sample
+-- each colour that a word has in eight bits lies so near to what the set's own numbers define of a sample
 pub record HoldsColour (numbers : YuvSet) (d word y u v : ℕ) : Type 0 where
   pub red-held : HoldsByte (laneOf d red) word (redExact numbers y u v)
   pub green-held : HoldsByte (laneOf d green) word (greenExact numbers y u v)
   pub blue-held : HoldsByte (laneOf d blue) word (blueExact numbers y u v)
 
--- own: each byte that an accepted conversion stores of a YUV texel lies near what the set's own numbers define of its luma, U and V
+-- own: each red, green and blue that an accepted conversion stores in eight bits of a YUV texel lies so near to what the set's own numbers define of its luma, U and V
 abbrev pub OwnWith : YuvSet → (src dst out : List ℕ) (s d : ℕ) → ConvertRegion → Type 0
 OwnWith numbers src dst out s d r =
     replyWith numbers src dst s d r ≡ Accepted → Disjoint d r → isYuv s ≡ true

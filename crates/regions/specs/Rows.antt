@@ -19,7 +19,8 @@ pub record RowFits (n m s d : ℕ) (r : ConvertRegion) (z row : ℕ) : Type 0 wh
   pub columns : (col : ℕ) → col < r .width → r .«dst_x» + col ≤ 4294967295
   pub destination : (col : ℕ) → col < r .width → toAt d r z row col + bytesOf d ≤ m
 
--- ---- a conversion as a run of rows, numbered slice × height + row
+-- ---- a conversion as a run of rows
+-- row n of them, numbered slice × height + row
 unfoldable pub numberedRow : YuvSet → (src : List ℕ) (s d : ℕ) → ConvertRegion → ℕ → List ℕ → List ℕ
 numberedRow numbers src s d r n = rowWritten numbers src s d r (n / r .height) (n % r .height)
 

@@ -1,5 +1,5 @@
 // What a conversion of a region of texels is: specs/Regions has the bytes and what is promised of them, the other files laws that the
-// crates `yuv_rows` and `pixel_convert` cite. Ported from pixel_convert.rs of athei/mtld3d (an altered version, see NOTICE).
+// crates above it cite. Ported from pixel_convert.rs of athei/mtld3d (an altered version, see NOTICE).
 ghost use mathlib.Core.Path.{_≡_};
 ghost use Rattle.regions.specs.Regions.{opaqueOf};
 use stretch_rect::Rgb;

@@ -7,10 +7,10 @@ ghost use lib.Dec.{eqb};
 ghost use lib.ListN.{length, take};
 ghost use Rattle.formats.specs.Table.{bytesOf};
 ghost use Rattle.formats.specs.Classes.{isPackedYuv, isPlanarYuv, isCodeSource};
-ghost use Rattle.planar_yuv.specs.Answers.{Legal};
+ghost use Rattle.planar_yuv.specs.Answers as layouts;
 ghost use Rattle.places.specs.Places.{isPicture, layoutPlaces, placesAt, placesIn, bytesAt};
 ghost use Rattle.places.specs.Planar.{LayoutFor};
-ghost use Rattle.yuv_sets.specs.Legal as sets;
+ghost use Rattle.yuv_sets.specs.Legal.{Legal};
 ghost use Rattle.regions.specs.Regions.{texelOf, texelAt, rowWritten};
 ghost use Rattle.regions.specs.Rows.{RowFits};
 use convert_reply::ConvertRegion;
@@ -26,7 +26,7 @@ fn fetch_planar(
     y: usize,
     x: usize,
 ) -> Texel
-    requires { ⌜ (isPlanarYuv «d3d_format» ≡ true) × (Legal layout) × (placesIn (length (now src)) (layoutPlaces «d3d_format» (layout .pitch) (layout .«luma_rows») y x) ≡ true) × sets.Legal numbers ⌝ }
+    requires { ⌜ (isPlanarYuv «d3d_format» ≡ true) × (layouts.Legal layout) × (placesIn (length (now src)) (layoutPlaces «d3d_format» (layout .pitch) (layout .«luma_rows») y x) ≡ true) × Legal numbers ⌝ }
     ensures { λ r. ⌜ r ≡ texelOf numbers «d3d_format» (eqb (x % 2) 1) (bytesAt (now (src .entry)) (layoutPlaces «d3d_format» (layout .pitch) (layout .«luma_rows») y x)) ⌝ }
 {
     regions::opaque(stretch_rect::decode_planar_yuv(numbers, d3d_format, src, layout, x, y))
@@ -34,7 +34,7 @@ fn fetch_planar(
 
 // A texel of a macropixel, which is lent from its first byte on.
 fn fetch_packed(numbers: YuvSet, macropixel: &[u8], d3d_format: u32, x: usize) -> Texel
-    requires { ⌜ (isPackedYuv «d3d_format» ≡ true) × (4 ≤ length (now macropixel)) × sets.Legal numbers ⌝ }
+    requires { ⌜ (isPackedYuv «d3d_format» ≡ true) × (4 ≤ length (now macropixel)) × Legal numbers ⌝ }
     ensures { λ r. ⌜ r ≡ texelOf numbers «d3d_format» (eqb (x % 2) 1) (take 4 (now (macropixel .entry))) ⌝ }
 {
     regions::opaque(stretch_rect::decode_packed_yuv(numbers, d3d_format, macropixel, x % 2 == 1))
@@ -53,7 +53,7 @@ fn fetch(
     y: usize,
     x: usize,
 ) -> Texel
-    requires { ⌜ (isPicture «d3d_format» ≡ true) × (size ≡ bytesOf «d3d_format») × (LayoutFor «d3d_format» pitch («slice_pitch» / pitch) layout) × (placesIn (length (now src)) (placesAt «d3d_format» pitch «slice_pitch» z y x) ≡ true) × (isCodeSource «d3d_format» ≡ false) × sets.Legal numbers ⌝ }
+    requires { ⌜ (isPicture «d3d_format» ≡ true) × (size ≡ bytesOf «d3d_format») × (LayoutFor «d3d_format» pitch («slice_pitch» / pitch) layout) × (placesIn (length (now src)) (placesAt «d3d_format» pitch «slice_pitch» z y x) ≡ true) × (isCodeSource «d3d_format» ≡ false) × Legal numbers ⌝ }
     ensures { λ r. ⌜ r ≡ texelAt numbers (now (src .entry)) «d3d_format» pitch «slice_pitch» z y x ⌝ }
 {
     if formats::is_planar_yuv(d3d_format) {
@@ -81,7 +81,7 @@ pub fn texel_row(
     z: usize,
     row: usize,
 )
-    requires { ⌜ (RowFits (length (now src)) (length (now dst)) «src_format» «dst_format» region z row) × (isCodeSource «src_format» ≡ false) × («from_size» ≡ bytesOf «src_format») × («to_size» ≡ bytesOf «dst_format») × sets.Legal numbers ⌝ }
+    requires { ⌜ (RowFits (length (now src)) (length (now dst)) «src_format» «dst_format» region z row) × (isCodeSource «src_format» ≡ false) × («from_size» ≡ bytesOf «src_format») × («to_size» ≡ bytesOf «dst_format») × Legal numbers ⌝ }
     ensures { λ _. ⌜ now (dst .exit) ≡ rowWritten numbers (now (src .entry)) «src_format» «dst_format» region z row (now (dst .entry)) ⌝ }
 {
     let sx = region.src_x as usize;

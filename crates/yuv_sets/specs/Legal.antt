@@ -12,6 +12,7 @@ use Rattle.yuv_sets.specs.declared.YuvSet.{YuvSet}
 use Rattle.yuv_sets.specs.Sets.{isGain, isLegal, sameSet, NearestTo, RoundedFrom, bt601, bt709}
 
 -- ---- the bounds
+-- a legal set, number by number
 pub record Legal (s : YuvSet) : Type 0 where
   pub luma-gain : s .«luma_gain» ≤ 262143
   pub luma-offset : s .«luma_offset» ≤ 4194303
@@ -19,13 +20,14 @@ pub record Legal (s : YuvSet) : Type 0 where
   pub u-to-green : s .«u_to_green» ≤ 262143
   pub v-to-green : s .«v_to_green» ≤ 262143
   pub u-to-blue : s .«u_to_blue» ≤ 262143
+  pub centre-least : 255 ≤ s .«chroma_centre»
   pub centre-most : s .«chroma_centre» ≤ 256
 
--- a centre of 127.5 or 128 is at most 128
-centre-at-most : (c : ℕ) → (eqb c 255 || eqb c 256) ≡ true → c ≤ 256
-centre-at-most c h = go (eqb c 255) (eqb c 256) refl refl h
+-- a centre of 127.5 or 128 lies from 127.5 to 128
+centre-between : (c : ℕ) → (eqb c 255 || eqb c 256) ≡ true → (255 ≤ c) × (c ≤ 256)
+centre-between c h = go (eqb c 255) (eqb c 256) refl refl h
   where
-    go : (a b : Bool) → eqb c 255 ≡ a → eqb c 256 ≡ b → (a || b) ≡ true → c ≤ 256
+    go : (a b : Bool) → eqb c 255 ≡ a → eqb c 256 ≡ b → (a || b) ≡ true → (255 ≤ c) × (c ≤ 256)
     go true b e f k = omega (arith, eqb-true c 255 e)
     go false true e f k = omega (arith, eqb-true c 256 f)
     go false false e f k = absurd (false≢true k)
@@ -52,7 +54,8 @@ legal s h =
       u-to-green = leb-true _ _ (k .3);
       v-to-green = leb-true _ _ (k .4);
       u-to-blue = leb-true _ _ (k .5);
-      centre-most = centre-at-most _ (k .6);
+      centre-least = centre-between (s .«chroma_centre») (k .6) .0;
+      centre-most = centre-between (s .«chroma_centre») (k .6) .1;
     }
 
 -- the two with names are legal
