@@ -1,14 +1,17 @@
 -- A pixel decoded by one division, and encoded by one word, for any format and its largest code. Assumes nothing.
 use mathlib.Core.Path.{_≡_, refl, sym, ap, ap₂, _∙_}
 use mathlib.Core.List.{List}
-use Prim.Native.Nat.{ℕ, _≤_}
+use Prim.Native.Nat.{ℕ, _*_, _≤_}
 use lib.IntN.{pos}
 use lib.Dec.{T, le→leb}
 use lib.ListN.{take}
 use lib.Seq.{sets}
 use lib.Ieee.{binary32, ofInt, ofBits, div, inFloat}
+use lib.Ieee.Nearest.{closest}
 use Rattle.words.specs.Little.{number, bytes}
 use Rattle.formats.specs.Table.{bytesOf}
+use Rattle.channels.specs.Fractions.{Fraction}
+use Rattle.channels.specs.Floats.{clamped}
 use Rattle.depth_pixels.specs.declared.DepthStencil.{DepthStencil}
 use Rattle.depth_pixels.specs.Depth.{codeFor}
 use Rattle.depth_pixels.specs.Pixels.{maxCode, depthCode, stencilCode, decoded, pixelWord, encoded}
@@ -46,3 +49,8 @@ encodes f max n v c l put b m e w =
     put
     ∙ ap (sets l 0)
     (ap₂ bytes (sym b) (sym w) ∙ ap (λ k. bytes (bytesOf f) (pixelWord f k (v .stencil))) (e ∙ ap (λ x. codeFor x (v .depth)) (sym m)))
+
+-- what is packed depends on the clamped depth alone
+pub encoded-same : (f : ℕ) (v w : DepthStencil) → clamped (v .depth) ≡ clamped (w .depth) → v .stencil ≡ w .stencil → encoded f v ≡ encoded f w
+unfolding encoded codeFor
+encoded-same f v w e h = ap₂ (λ (q : Fraction) (t : ℕ). bytes (bytesOf f) (pixelWord f (closest (q .top * maxCode f) (q .bottom)) t)) e h

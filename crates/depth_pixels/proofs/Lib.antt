@@ -1,5 +1,3 @@
 -- What the proofs of several functions use.
 pub mod Patterns
 pub mod Coding
-pub mod Rows
-pub mod Arms

@@ -1,6 +1,6 @@
-// Packed depth pixels (D16, D24X8, D24S8): one pixel to a depth and a stencil and back, and rows of them to the rows of two planes.
-// specs/ has the codes (Depth), the pixels (Pixels), their bytes (PixelBytes) and pictures of them (Pictures); Restoration shows
-// that packing what was unpacked restores the code.
+// Packed depth pixels (D16, D24X8, D24S8): one pixel to a depth and a stencil and back. specs/ has the codes (Depth), the pixels
+// (Pixels), their bytes (PixelBytes) and pictures of them (Pictures); Restoration shows that packing what was unpacked restores the
+// code.
 // Ported from depth_texture.rs of athei/mtld3d (an altered version, see NOTICE).
 use channels::f32_to_nearest_code;
 use formats::D3DFMT_D16;
@@ -11,9 +11,8 @@ use words::le32;
 use words::put16;
 use words::put32;
 ghost use mathlib.Core.Path.{_≡_};
-ghost use mathlib.Core.Bool.{true, not};
-ghost use mathlib.Core.List.{[]};
-ghost use Prim.Native.Nat.{_+_, _*_, _-_, _%_, _≤_, _<_, max};
+ghost use mathlib.Core.Bool.{not};
+ghost use Prim.Native.Nat.{_+_, _-_, _%_, _≤_, _<_, max};
 ghost use lib.ListN.{length};
 ghost use lib.Seq.{sets};
 ghost use lib.Dec.{T};
@@ -24,8 +23,7 @@ ghost use Rattle.formats.specs.Table.{bytesOf};
 ghost use Rattle.channels.specs.Floats.{clamped};
 ghost use Rattle.depth_pixels.specs.Depth.{codeFor};
 ghost use Rattle.depth_pixels.specs.Pixels.{formatCode, StandsFor, hasStencil, decoded, encoded};
-ghost use Rattle.depth_pixels.specs.Pictures.{writtenRow, RowIn};
-ghost use Rattle.depth_pixels.specs.PixelBytes.{depthAt, wordAt, depthBytes, stencilBytes, packedBytes, depthRow, stencilRow, packedRow};
+ghost use Rattle.depth_pixels.specs.PixelBytes.{wordAt};
 
 // The packed depth formats, whose codes survive binary32 storage.
 pub enum PackedDepth {
@@ -108,7 +106,7 @@ impl PackedDepth {
 }
 
 // D16: the word is the code.
-fn decode_d16(pixel: &[u8]) -> DepthStencil
+pub fn decode_d16(pixel: &[u8]) -> DepthStencil
     requires { ⌜ 2 ≤ length (now pixel) ⌝ }
     ensures { λ r. ⌜ r ≡ decoded codes.D16 (wordAt codes.D16 (now (pixel .entry)) 0) ⌝ }
 {
@@ -119,7 +117,7 @@ fn decode_d16(pixel: &[u8]) -> DepthStencil
 }
 
 // D24X8: the code lies below the unused byte.
-fn decode_d24x8(pixel: &[u8]) -> DepthStencil
+pub fn decode_d24x8(pixel: &[u8]) -> DepthStencil
     requires { ⌜ 4 ≤ length (now pixel) ⌝ }
     ensures { λ r. ⌜ r ≡ decoded codes.D24X8 (wordAt codes.D24X8 (now (pixel .entry)) 0) ⌝ }
 {
@@ -131,7 +129,7 @@ fn decode_d24x8(pixel: &[u8]) -> DepthStencil
 }
 
 // D24S8: the code lies above the stencil byte.
-fn decode_d24s8(pixel: &[u8]) -> DepthStencil
+pub fn decode_d24s8(pixel: &[u8]) -> DepthStencil
     requires { ⌜ 4 ≤ length (now pixel) ⌝ }
     ensures { λ r. ⌜ r ≡ decoded codes.D24S8 (wordAt codes.D24S8 (now (pixel .entry)) 0) ⌝ }
 {
@@ -174,7 +172,7 @@ fn without_nan(value: DepthStencil) -> DepthStencil
 }
 
 // D16: the word is the code, and there is no stencil.
-fn encode_d16(value: DepthStencil, pixel: &mut [u8])
+pub fn encode_d16(value: DepthStencil, pixel: &mut [u8])
     requires { ⌜ (2 ≤ length (now pixel)) × T (not (isNan (value .depth))) ⌝ }
     ensures { λ _. ⌜ now (pixel .exit) ≡ sets (now (pixel .entry)) 0 (encoded codes.D16 value) ⌝ }
 {
@@ -185,7 +183,7 @@ fn encode_d16(value: DepthStencil, pixel: &mut [u8])
 const UNUSED: u32 = 0;
 
 // D24X8: the code below the unused byte.
-fn encode_d24x8(value: DepthStencil, pixel: &mut [u8])
+pub fn encode_d24x8(value: DepthStencil, pixel: &mut [u8])
     requires { ⌜ (4 ≤ length (now pixel)) × T (not (isNan (value .depth))) ⌝ }
     ensures { λ _. ⌜ now (pixel .exit) ≡ sets (now (pixel .entry)) 0 (encoded codes.D24X8 value) ⌝ }
 {
@@ -194,7 +192,7 @@ fn encode_d24x8(value: DepthStencil, pixel: &mut [u8])
 }
 
 // D24S8: the stencil byte, and above it the code's bytes from the lowest one on.
-fn encode_d24s8(value: DepthStencil, pixel: &mut [u8])
+pub fn encode_d24s8(value: DepthStencil, pixel: &mut [u8])
     requires { ⌜ (4 ≤ length (now pixel)) × T (not (isNan (value .depth))) ⌝ }
     ensures { λ _. ⌜ now (pixel .exit) ≡ sets (now (pixel .entry)) 0 (encoded codes.D24S8 value) ⌝ }
 {
@@ -205,179 +203,9 @@ fn encode_d24s8(value: DepthStencil, pixel: &mut [u8])
 }
 
 // A depth's four bytes, at byte `at` of a depth plane.
-fn store_depth(plane: &mut [u8], at: usize, depth: f32)
+pub fn store_depth(plane: &mut [u8], at: usize, depth: f32)
     requires { ⌜ (at + 4 ≤ length (now plane)) × T (not (isNan depth)) ⌝ }
     ensures { λ _. ⌜ now (plane .exit) ≡ sets (now (plane .entry)) at (bytes 4 (toBits binary32 depth)) ⌝ }
 {
     put32(&mut plane[at..], f32::to_bits(depth));
-}
-
-// The depth whose four bytes begin at byte `at` of a depth plane. A NaN's bytes and those of a negative number count as 0.
-fn load_depth(plane: &[u8], at: usize) -> f32
-    requires { ⌜ at + 4 ≤ length (now plane) ⌝ }
-    ensures same { λ r. ⌜ clamped r ≡ clamped (depthAt (now (plane .entry)) at) ⌝ }
-    ensures number { λ r. ⌜ T (not (isNan r)) ⌝ }
-{
-    let bits = le32(&plane[at..]);
-    if bits > 0x7f80_0000 {
-        return 0.0;
-    }
-    f32::from_bits(bits)
-}
-
-// A row of D16 pixels from byte `from` on, into the depth plane from byte `to` on.
-fn unpack_row_d16(packed: &[u8], from: usize, depth: &mut [u8], to: usize, width: usize)
-    requires { ⌜ (RowIn (length (now packed)) from 2 width) × (RowIn (length (now depth)) to 4 width) ⌝ }
-    ensures { λ _. ⌜ now (depth .exit) ≡ writtenRow to 4 width (λ x. depthBytes codes.D16 (now (packed .entry)) (from + x * 2)) (now (depth .entry)) ⌝ }
-{
-    let mut x: usize = 0;
-    while x < width {
-        let at = from + x * 2;
-        let pixel = decode_d16(&packed[at..]);
-        store_depth(depth, to + x * 4, pixel.depth);
-        x += 1;
-    }
-}
-
-// The same of D24X8.
-fn unpack_row_d24x8(packed: &[u8], from: usize, depth: &mut [u8], to: usize, width: usize)
-    requires { ⌜ (RowIn (length (now packed)) from 4 width) × (RowIn (length (now depth)) to 4 width) ⌝ }
-    ensures { λ _. ⌜ now (depth .exit) ≡ writtenRow to 4 width (λ x. depthBytes codes.D24X8 (now (packed .entry)) (from + x * 4)) (now (depth .entry)) ⌝ }
-{
-    let mut x: usize = 0;
-    while x < width {
-        let at = from + x * 4;
-        let pixel = decode_d24x8(&packed[at..]);
-        store_depth(depth, to + x * 4, pixel.depth);
-        x += 1;
-    }
-}
-
-// The same of D24S8, with the stencils into the stencil plane from byte `at` on.
-fn unpack_row_d24s8(
-    packed: &[u8],
-    from: usize,
-    depth: &mut [u8],
-    to: usize,
-    stencil: &mut [u8],
-    at: usize,
-    width: usize,
-)
-    requires { ⌜ (RowIn (length (now packed)) from 4 width) × (RowIn (length (now depth)) to 4 width) × (RowIn (length (now stencil)) at 1 width) ⌝ }
-    ensures depth { λ _. ⌜ now (depth .exit) ≡ writtenRow to 4 width (λ x. depthBytes codes.D24S8 (now (packed .entry)) (from + x * 4)) (now (depth .entry)) ⌝ }
-    ensures stencil { λ _. ⌜ now (stencil .exit) ≡ writtenRow at 1 width (λ x. stencilBytes codes.D24S8 (now (packed .entry)) (from + x * 4)) (now (stencil .entry)) ⌝ }
-{
-    let mut x: usize = 0;
-    while x < width {
-        let first = from + x * 4;
-        let pixel = decode_d24s8(&packed[first..]);
-        store_depth(depth, to + x * 4, pixel.depth);
-        let place = at + x;
-        stencil[place] = pixel.stencil;
-        x += 1;
-    }
-}
-
-// A row of D16 pixels at byte `to`, from the depths at byte `from` of the depth plane.
-fn pack_row_d16(packed: &mut [u8], to: usize, depth: &[u8], from: usize, width: usize)
-    requires { ⌜ (RowIn (length (now packed)) to 2 width) × (RowIn (length (now depth)) from 4 width) ⌝ }
-    ensures { λ _. ⌜ now (packed .exit) ≡ writtenRow to 2 width (λ x. packedBytes codes.D16 (now (depth .entry)) [] (from + x * 4) 0) (now (packed .entry)) ⌝ }
-{
-    let mut x: usize = 0;
-    while x < width {
-        let value = DepthStencil {
-            depth: load_depth(depth, from + x * 4),
-            stencil: 0,
-        };
-        let first = to + x * 2;
-        encode_d16(value, &mut packed[first..]);
-        x += 1;
-    }
-}
-
-// The same of D24X8.
-fn pack_row_d24x8(packed: &mut [u8], to: usize, depth: &[u8], from: usize, width: usize)
-    requires { ⌜ (RowIn (length (now packed)) to 4 width) × (RowIn (length (now depth)) from 4 width) ⌝ }
-    ensures { λ _. ⌜ now (packed .exit) ≡ writtenRow to 4 width (λ x. packedBytes codes.D24X8 (now (depth .entry)) [] (from + x * 4) 0) (now (packed .entry)) ⌝ }
-{
-    let mut x: usize = 0;
-    while x < width {
-        let value = DepthStencil {
-            depth: load_depth(depth, from + x * 4),
-            stencil: 0,
-        };
-        let first = to + x * 4;
-        encode_d24x8(value, &mut packed[first..]);
-        x += 1;
-    }
-}
-
-// The same of D24S8, with the stencils at byte `at` of the stencil plane.
-fn pack_row_d24s8(
-    packed: &mut [u8],
-    to: usize,
-    depth: &[u8],
-    from: usize,
-    stencil: &[u8],
-    at: usize,
-    width: usize,
-)
-    requires { ⌜ (RowIn (length (now packed)) to 4 width) × (RowIn (length (now depth)) from 4 width) × (RowIn (length (now stencil)) at 1 width) ⌝ }
-    ensures { λ _. ⌜ now (packed .exit) ≡ writtenRow to 4 width (λ x. packedBytes codes.D24S8 (now (depth .entry)) (now (stencil .entry)) (from + x * 4) (at + x * 1)) (now (packed .entry)) ⌝ }
-{
-    let mut x: usize = 0;
-    while x < width {
-        let value = DepthStencil {
-            depth: load_depth(depth, from + x * 4),
-            stencil: stencil[at + x],
-        };
-        let first = to + x * 4;
-        encode_d24s8(value, &mut packed[first..]);
-        x += 1;
-    }
-}
-
-impl PackedDepth {
-    // A row of packed pixels from byte `from` on, into the depth plane from byte `to` on and the stencil plane from byte `at` on.
-    pub fn unpack_row(
-        self,
-        packed: &[u8],
-        from: usize,
-        depth: &mut [u8],
-        to: usize,
-        stencil: &mut [u8],
-        at: usize,
-        width: usize,
-    )
-        requires { ⌜ (RowIn (length (now packed)) from (bytesOf (formatCode self)) width) × (RowIn (length (now depth)) to 4 width) × (hasStencil (formatCode self) ≡ true → RowIn (length (now stencil)) at 1 width) ⌝ }
-        ensures depth { λ _. ⌜ now (depth .exit) ≡ depthRow (formatCode self) (now (packed .entry)) from to width (now (depth .entry)) ⌝ }
-        ensures stencil { λ _. ⌜ now (stencil .exit) ≡ stencilRow (formatCode self) (now (packed .entry)) from at width (now (stencil .entry)) ⌝ }
-    {
-        match self {
-            PackedDepth::D16 => unpack_row_d16(packed, from, depth, to, width),
-            PackedDepth::D24X8 => unpack_row_d24x8(packed, from, depth, to, width),
-            PackedDepth::D24S8 => unpack_row_d24s8(packed, from, depth, to, stencil, at, width),
-        }
-    }
-
-    // The same way back.
-    pub fn pack_row(
-        self,
-        packed: &mut [u8],
-        to: usize,
-        depth: &[u8],
-        from: usize,
-        stencil: &[u8],
-        at: usize,
-        width: usize,
-    )
-        requires { ⌜ (RowIn (length (now packed)) to (bytesOf (formatCode self)) width) × (RowIn (length (now depth)) from 4 width) × (hasStencil (formatCode self) ≡ true → RowIn (length (now stencil)) at 1 width) ⌝ }
-        ensures { λ _. ⌜ now (packed .exit) ≡ packedRow (formatCode self) (now (depth .entry)) (now (stencil .entry)) from at to width (now (packed .entry)) ⌝ }
-    {
-        match self {
-            PackedDepth::D16 => pack_row_d16(packed, to, depth, from, width),
-            PackedDepth::D24X8 => pack_row_d24x8(packed, to, depth, from, width),
-            PackedDepth::D24S8 => pack_row_d24s8(packed, to, depth, from, stencil, at, width),
-        }
-    }
 }

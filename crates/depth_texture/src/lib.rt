@@ -322,7 +322,7 @@ fn unpack_rows(
         let from = y * packed_pitch;
         let to = y * depth_pitch;
         let at = y * stencil_pitch;
-        kind.unpack_row(packed, from, depth, to, stencil, at, width);
+        depth_rows::unpack_row(kind, packed, from, depth, to, stencil, at, width);
         y += 1;
     }
 }
@@ -348,7 +348,7 @@ fn pack_rows(
         let to = y * packed_pitch;
         let from = y * depth_pitch;
         let at = y * stencil_pitch;
-        kind.pack_row(packed, to, depth, from, stencil, at, width);
+        depth_rows::pack_row(kind, packed, to, depth, from, stencil, at, width);
         y += 1;
     }
 }

@@ -12,7 +12,7 @@ use Rattle.depth_pixels.specs.Pictures.{place, written, rows-none}
 use Rattle.depth_texture.specs.Refusals.{RowsWithin, rows-within}
 use Rattle.depth_pixels.specs.PixelBytes.{packedBytes}
 use Rattle.depth_texture.specs.Planes.{packedPixels}
-use Rattle.depth_pixels.proofs.Rows.{packed-more, row-begins}
+use Rattle.depth_rows.proofs.Rows.{packed-more, row-begins}
 use Rattle.depth_texture.proofs.pack_rows.Statement.{statement}
 use Rattle.depth_texture.proofs.pack_rows.Tie as tie
 

@@ -12,7 +12,7 @@ use Rattle.depth_pixels.specs.Pictures.{place, written, rows-none}
 use Rattle.depth_texture.specs.Refusals.{RowsWithin, rows-within}
 use Rattle.depth_pixels.specs.PixelBytes.{depthBytes}
 use Rattle.depth_texture.specs.Planes.{depthPlane, stencilPlane}
-use Rattle.depth_pixels.proofs.Rows.{stencilRows, stencils-none, stencils-more, depths-more, row-begins}
+use Rattle.depth_rows.proofs.Rows.{stencilRows, stencils-none, stencils-more, depths-more, row-begins}
 use Rattle.depth_texture.proofs.unpack_rows.Statement.{statement}
 use Rattle.depth_texture.proofs.unpack_rows.Tie as tie
 

@@ -9,7 +9,7 @@ use Rattle.formats.specs.Table.{bytesOf}
 use Rattle.depth_pixels.specs.declared.PackedDepth.{PackedDepth}
 use Rattle.depth_pixels.specs.Pixels.{formatCode, encoded}
 use Rattle.depth_pixels.specs.PackedFormats.{size-d16, size-d24x8, size-d24s8}
-use Rattle.depth_pixels.proofs.Rows.{encoded-same}
+use Rattle.depth_pixels.proofs.Coding.{encoded-same}
 use borrow.Author.Needs.{needs}
 use Rattle.depth_pixels.proofs.PackedDepth.encode.Statement.{statement}
 use Rattle.depth_pixels.proofs.PackedDepth.encode.Tie as tie

@@ -1,12 +1,12 @@
--- `depth_pixels::PackedDepth::pack_row` meets its contract: each arm is the row of its format. Assumes nothing.
+-- `depth_rows::pack_row` meets its contract: each arm is the row of its format. Assumes nothing.
 use mathlib.Core.Path.{_∙_}
 use denote.Ref.{now}
 use Rattle.depth_pixels.specs.declared.PackedDepth.the-variants.{D16, D24X8, D24S8}
 use Rattle.depth_pixels.specs.PackedFormats.{size-d16, size-d24x8, size-d24s8, stencil-d16, stencil-d24x8, stencil-d24s8}
-use Rattle.depth_pixels.proofs.Arms.{row-in, stencil-in, packed-row, unread-row}
+use Rattle.depth_rows.proofs.Arms.{row-in, stencil-in, packed-row, unread-row}
 use borrow.Author.Needs.{needs}
-use Rattle.depth_pixels.proofs.PackedDepth.pack_row.Statement.{statement}
-use Rattle.depth_pixels.proofs.PackedDepth.pack_row.Tie as tie
+use Rattle.depth_rows.proofs.pack_row.Statement.{statement}
+use Rattle.depth_rows.proofs.pack_row.Tie as tie
 
 enum-told : tie.Need-enum-told
 enum-told c = search needs

@@ -1,4 +1,4 @@
--- `depth_pixels::pack_row_d16` meets its contract: column by column. Assumes nothing.
+-- `depth_rows::pack_row_d16` meets its contract: column by column. Assumes nothing.
 use mathlib.Core.List.{[]}
 use Prim.Native.Nat.{_+_, _-_, _*_, _≤_}
 use native.Mathlib.Omega.{arith}
@@ -6,11 +6,11 @@ use lib.ListN.{length, length-take, length-drop}
 use borrow.Author.Needs.{needs}
 use denote.Ref.{now}
 use Rattle.formats.specs.Codes as codes
 use Rattle.depth_pixels.specs.PackedFormats.{size-d16, stencil-d16}
 use Rattle.depth_pixels.specs.PixelBytes.{packedBytes}
-use Rattle.depth_pixels.proofs.Rows.{Turn, first-turn, next-turn, last-turn, column-in, no-stencil-read, pixel-stored}
-use Rattle.depth_pixels.proofs.pack_row_d16.Statement.{statement}
-use Rattle.depth_pixels.proofs.pack_row_d16.Tie as tie
+use Rattle.depth_rows.proofs.Rows.{Turn, first-turn, next-turn, last-turn, column-in, no-stencil-read, pixel-stored}
+use Rattle.depth_rows.proofs.pack_row_d16.Statement.{statement}
+use Rattle.depth_rows.proofs.pack_row_d16.Tie as tie
 
 abbrev Inv-loop : tie.InvT-loop
 Inv-loop packed₀ to depth from width x₀ packed x = Turn to 2 width (λ k. packedBytes codes.D16 depth [] (from + k * 4) 0) packed₀ packed x

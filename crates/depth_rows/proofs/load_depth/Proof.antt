@@ -1,4 +1,4 @@
--- `depth_pixels::load_depth` meets its contract: a NaN, what is negative and 0 are all 0 when they are clamped, and any other pattern is read as it stands. Assumes nothing.
+-- `depth_rows::load_depth` meets its contract: a NaN, what is negative and 0 are all 0 when they are clamped, and any other pattern is read as it stands. Assumes nothing.
 use mathlib.Core.Path.{_≡_, sym, ap, _∙_, subst}
 use Prim.Native.Nat.{ℕ, _-_, _%_, _≤_, _<_}
 use mathlib.Core.Bool.{not}
@@ -12,11 +12,11 @@ use denote.Ref.{now}
 use Rattle.words.specs.Little.{number}
 use Rattle.words.specs.Slices.{part-read}
 use Rattle.channels.specs.Floats.{clamped, as-zero}
 use Rattle.depth_pixels.specs.PixelBytes.{depthAt}
 use Rattle.depth_pixels.proofs.Patterns.{zero-number}
 use borrow.Author.Needs.{needs}
-use Rattle.depth_pixels.proofs.load_depth.Statement.{statement}
-use Rattle.depth_pixels.proofs.load_depth.Tie as tie
+use Rattle.depth_rows.proofs.load_depth.Statement.{statement}
+use Rattle.depth_rows.proofs.load_depth.Tie as tie
 
 -- the part that was lent, read
 bits-read : (plane : List ℕ) (at bits : ℕ) → bits ≡ number (take 4 (take (length plane - at) (drop at plane))) → depthAt plane at ≡ ofBits binary32 bits

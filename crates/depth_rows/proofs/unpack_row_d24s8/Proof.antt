@@ -1,4 +1,4 @@
--- `depth_pixels::unpack_row_d24s8` meets its contract: column by column, in both planes. Assumes nothing.
+-- `depth_rows::unpack_row_d24s8` meets its contract: column by column, in both planes. Assumes nothing.
 use mathlib.Core.Path.{_∙_}
 use Prim.Native.Nat.{_+_, _-_, _*_, _≤_}
 use native.Mathlib.Omega.{arith}
@@ -6,11 +6,11 @@ use lib.ListN.{length, length-take, length-drop}
 use borrow.Author.Needs.{needs}
 use denote.Ref.{now}
 use Rattle.formats.specs.Codes as codes
 use Rattle.depth_pixels.specs.declared.PackedDepth.the-variants.{D24S8}
 use Rattle.depth_pixels.specs.PixelBytes.{depthBytes, stencilBytes}
-use Rattle.depth_pixels.proofs.Rows.{Turn, first-turn, next-turn, last-turn, column-in, depth-stored, stencil-stored, decoded-no-nan}
-use Rattle.depth_pixels.proofs.unpack_row_d24s8.Statement.{statement}
-use Rattle.depth_pixels.proofs.unpack_row_d24s8.Tie as tie
+use Rattle.depth_rows.proofs.Rows.{Turn, first-turn, next-turn, last-turn, column-in, depth-stored, stencil-stored, decoded-no-nan}
+use Rattle.depth_rows.proofs.unpack_row_d24s8.Statement.{statement}
+use Rattle.depth_rows.proofs.unpack_row_d24s8.Tie as tie
 
 abbrev Inv-loop : tie.InvT-loop
 Inv-loop packed from depth₀ to stencil₀ at width x₀ depth stencil x =

@@ -1,4 +1,4 @@
--- `depth_pixels::pack_row_d24s8` meets its contract: column by column. Assumes nothing.
+-- `depth_rows::pack_row_d24s8` meets its contract: column by column. Assumes nothing.
 use mathlib.Core.Path.{_≡_, sym, ap, _∙_}
 use mathlib.Core.List.{List}
 use Prim.Native.Nat.{ℕ, _+_, _-_, _*_, _≤_}
@@ -9,11 +9,11 @@ use borrow.Author.Needs.{needs}
 use denote.Ref.{now}
 use Rattle.formats.specs.Codes as codes
 use Rattle.words.specs.Tests.{pick}
 use Rattle.depth_pixels.specs.PackedFormats.{size-d24s8, stencil-d24s8}
 use Rattle.depth_pixels.specs.PixelBytes.{packedBytes, stencilAt}
-use Rattle.depth_pixels.proofs.Rows.{Turn, first-turn, next-turn, last-turn, column-in, pixel-stored}
-use Rattle.depth_pixels.proofs.pack_row_d24s8.Statement.{statement}
-use Rattle.depth_pixels.proofs.pack_row_d24s8.Tie as tie
+use Rattle.depth_rows.proofs.Rows.{Turn, first-turn, next-turn, last-turn, column-in, pixel-stored}
+use Rattle.depth_rows.proofs.pack_row_d24s8.Statement.{statement}
+use Rattle.depth_rows.proofs.pack_row_d24s8.Tie as tie
 
 abbrev Inv-loop : tie.InvT-loop
 Inv-loop packed₀ to depth from stencil at width x₀ packed x = Turn to 4 width (λ k. packedBytes codes.D24S8 depth stencil (from + k * 4) (at + k * 1)) packed₀ packed x

@@ -10,21 +10,20 @@ use lib.Dec.{T}
 use lib.ListN.{length, take, drop, set, getD}
 use lib.Seq.{sets, length-sets}
 use lib.Ieee.{Float, binary32, toBits, isNan}
-use lib.Ieee.Nearest.{closest}
 use Rattle.words.specs.Little.{bytes, number, length-bytes}
 use Rattle.words.specs.Slices.{part-read, part-back}
 use Rattle.words.specs.Tests.{pick}
 use Rattle.formats.specs.Table.{bytesOf}
-use Rattle.channels.specs.Fractions.{Fraction}
 use Rattle.channels.specs.Floats.{clamped}
 use Rattle.depth_pixels.specs.declared.PackedDepth.{PackedDepth}
 use Rattle.depth_pixels.specs.declared.DepthStencil.{DepthStencil}
 use Rattle.depth_pixels.specs.Depth.{codeFor}
 use Rattle.depth_pixels.specs.Restoration.{depth-no-nan}
 use Rattle.depth_pixels.specs.Pixels.{formatCode, hasStencil, maxCode, depthCode, decoded, pixelWord, encoded}
 use Rattle.depth_pixels.specs.PackedFormats.{sizes, depth-code-le, stencil-lt}
 use Rattle.depth_pixels.specs.PixelBytes.{wordAt, depthAt, depthBytes, stencilBytes, stencilAt, packedBytes, depthRow, stencilRow, packedRow}
 use Rattle.depth_pixels.specs.Pictures.{place, writtenRow, written, RowIn, row-none, row-more, rows-none, rows-more}
+use Rattle.depth_pixels.proofs.Coding.{encoded-same}
 
 -- ---- a loop over a row
 -- before column x: the columns before it hold their content, and the list is as long as it was
@@ -86,11 +85,6 @@ decoded-no-nan d packed a v e =
 encoded-sized : (f : ℕ) (v : DepthStencil) → length (encoded f v) ≡ bytesOf f
 unfolding encoded
 encoded-sized f v = length-bytes (bytesOf f) (pixelWord f (codeFor (maxCode f) (v .depth)) (v .stencil))
-
--- what is packed depends on the clamped depth alone
-pub encoded-same : (f : ℕ) (v w : DepthStencil) → clamped (v .depth) ≡ clamped (w .depth) → v .stencil ≡ w .stencil → encoded f v ≡ encoded f w
-unfolding encoded codeFor
-encoded-same f v w e h = ap₂ (λ (q : Fraction) (t : ℕ). bytes (bytesOf f) (pixelWord f (closest (q .top * maxCode f) (q .bottom)) t)) e h
 
 -- without a stencil it counts as 0
 pub no-stencil-read : (f : ℕ) (plane : List ℕ) (at : ℕ) → hasStencil f ≡ false → 0 ≡ stencilAt f plane at
