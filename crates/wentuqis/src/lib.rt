@@ -286,7 +286,7 @@ pub extern "C" fn wentuqis_unpack(
         depth_pitch,
         stencil_pitch,
     };
-    let reply = layout.unpack(format, packed, packed_pitch, depth, stencil);
+    let reply = depth_pictures::unpack(layout, format, packed, packed_pitch, depth, stencil);
     reply.number()
 }
 
@@ -314,6 +314,6 @@ pub extern "C" fn wentuqis_pack(
         depth_pitch,
         stencil_pitch,
     };
-    let reply = layout.pack(format, depth, stencil, packed, packed_pitch);
+    let reply = depth_pictures::pack(layout, format, depth, stencil, packed, packed_pitch);
     reply.number()
 }

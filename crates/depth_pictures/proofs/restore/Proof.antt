@@ -1,11 +1,11 @@
--- `depth_texture::restore` meets its contract, by the contracts of `unpack` and `pack` alone. Assumes nothing.
+-- `depth_pictures::restore` meets its contract, by the contracts of `unpack` and `pack` alone. Assumes nothing.
 use mathlib.Core.Path.{sym, _∙_}
 use denote.Ref.{now}
 use Rattle.depth_texture.specs.Replies.{replyNumber}
-use Rattle.depth_texture.proofs.Calls.{not-restored, restored-by}
+use Rattle.depth_pictures.proofs.Calls.{not-restored, restored-by}
 use borrow.Author.Needs.{needs}
-use Rattle.depth_texture.proofs.restore.Statement.{statement}
-use Rattle.depth_texture.proofs.restore.Tie as tie
+use Rattle.depth_pictures.proofs.restore.Statement.{statement}
+use Rattle.depth_pictures.proofs.restore.Tie as tie
 
 unpack-requires : tie.Need-unpack-requires
 unpack-requires c κs = search needs

@@ -1,20 +1,20 @@
--- `depth_texture::PlaneLayout::unpack` meets its contract: what the tests found, and then the rows. Assumes nothing.
+-- `depth_pictures::unpack` meets its contract: what the tests found, and then the rows. Assumes nothing.
 use mathlib.Core.Path.{_≡_, ap, _∙_, subst}
 use native.Mathlib.Omega.{arith}
 use lib.ListN.{length}
 use denote.Ref.{now}
 use Rattle.depth_pixels.specs.Pixels.{formatCode}
 use Rattle.depth_texture.specs.Replies.{refusalOf, Checked}
 use Rattle.depth_texture.specs.Planes.{depthPlane, stencilPlane}
-use Rattle.depth_texture.proofs.Calls.{accepted-as, unpack-refused, unpack-accepted}
+use Rattle.depth_pictures.proofs.Calls.{accepted-as, unpack-refused, unpack-accepted}
 use borrow.Author.Needs.{needs}
-use Rattle.depth_texture.proofs.PlaneLayout.unpack.Statement.{statement}
-use Rattle.depth_texture.proofs.PlaneLayout.unpack.Tie as tie
+use Rattle.depth_pictures.proofs.unpack.Statement.{statement}
+use Rattle.depth_pictures.proofs.unpack.Tie as tie
 
 -- the format that was found
 found : (c : tie.After-kind)
     → let g = c .before .before .before .before .before .before .args in
-    (formatCode (c .kind .given .0 .0) ≡ g .format) × (refusalOf (g .format) (g .self) (length (now (g .packed))) (g .packed-pitch) (length (now (g .depth))) (length (now (g .stencil))) ≡ 0)
+    (formatCode (c .kind .given .0 .0) ≡ g .format) × (refusalOf (g .format) (g .layout) (length (now (g .packed))) (g .packed-pitch) (length (now (g .depth))) (length (now (g .stencil))) ≡ 0)
 found c = subst (Checked (c .before .before .before .before .before .before .args .format) _) (c .kind .given .1) (c .before .before .check .ensures)
 
 check-requires : tie.Need-check-requires
@@ -30,14 +30,14 @@ unpack-rows-requires : tie.Need-unpack-rows-requires
 unpack-rows-requires c κs =
     let k = c .before .before .before in
     let g = k .before .before .before .before .before .before .args in
-    accepted-as (k .kind .given .0 .0) (g .format) (g .self) (length (now (g .packed))) (g .packed-pitch) (length (now (g .depth))) (length (now (g .stencil))) (found k)
+    accepted-as (k .kind .given .0 .0) (g .format) (g .layout) (length (now (g .packed))) (g .packed-pitch) (length (now (g .depth))) (length (now (g .stencil))) (found k)
 
 returns : tie.Need-returns
 returns c =
     let k = c .before in
     let g = k .before .before .before .before .before .before .args in
     let e = subst (Checked (g .format) _) (k .reply .given .1) (k .before .before .check .ensures) in
-    unpack-refused (g .format) (g .self) (now (g .packed)) (g .packed-pitch) (now (g .depth)) (now (g .stencil)) _ (e .0) (e .1)
+    unpack-refused (g .format) (g .layout) (now (g .packed)) (g .packed-pitch) (now (g .depth)) (now (g .stencil)) _ (e .0) (e .1)
 
 same-length : tie.Need-same-length
 same-length c = search needs
@@ -50,9 +50,9 @@ returns-2 c =
     let k = c .before .before .before .before .before .before .before .before in
     let g = k .before .before .before .before .before .before .args in
     let r = c .before .before .before .before .unpack-rows in
-    unpack-accepted (g .format) (g .self) (now (g .packed)) (g .packed-pitch) (now (g .depth)) (now (g .stencil)) (found k .1) (λ i. omega (arith, k .before .before .before .before .before .shared-slice-known .given i)) _ _
-    (r .ensures .0 ∙ ap (λ f. depthPlane f (g .self) (now (g .packed)) (g .packed-pitch) (now (g .depth))) (found k .0))
-    (r .ensures .1 ∙ ap (λ f. stencilPlane f (g .self) (now (g .packed)) (g .packed-pitch) (now (g .stencil))) (found k .0))
+    unpack-accepted (g .format) (g .layout) (now (g .packed)) (g .packed-pitch) (now (g .depth)) (now (g .stencil)) (found k .1) (λ i. omega (arith, k .before .before .before .before .before .shared-slice-known .given i)) _ _
+    (r .ensures .0 ∙ ap (λ f. depthPlane f (g .layout) (now (g .packed)) (g .packed-pitch) (now (g .depth))) (found k .0))
+    (r .ensures .1 ∙ ap (λ f. stencilPlane f (g .layout) (now (g .packed)) (g .packed-pitch) (now (g .stencil))) (found k .0))
 
 pub unpack-spec : {M : Type 1} → statement M
 unpack-spec =

@@ -1,20 +1,20 @@
--- `depth_texture::PlaneLayout::pack` meets its contract: what the tests found, and then the rows. Assumes nothing.
+-- `depth_pictures::pack` meets its contract: what the tests found, and then the rows. Assumes nothing.
 use mathlib.Core.Path.{_≡_, ap, _∙_, subst}
 use native.Mathlib.Omega.{arith}
 use lib.ListN.{length}
 use denote.Ref.{now}
 use Rattle.depth_pixels.specs.Pixels.{formatCode}
 use Rattle.depth_texture.specs.Replies.{refusalOf, Checked}
 use Rattle.depth_texture.specs.Planes.{packedPixels}
-use Rattle.depth_texture.proofs.Calls.{accepted-as, pack-refused, pack-accepted}
+use Rattle.depth_pictures.proofs.Calls.{accepted-as, pack-refused, pack-accepted}
 use borrow.Author.Needs.{needs}
-use Rattle.depth_texture.proofs.PlaneLayout.pack.Statement.{statement}
-use Rattle.depth_texture.proofs.PlaneLayout.pack.Tie as tie
+use Rattle.depth_pictures.proofs.pack.Statement.{statement}
+use Rattle.depth_pictures.proofs.pack.Tie as tie
 
 -- the format that was found
 found : (c : tie.After-kind)
     → let g = c .before .before .before .before .before .before .args in
-    (formatCode (c .kind .given .0 .0) ≡ g .format) × (refusalOf (g .format) (g .self) (length (now (g .packed))) (g .packed-pitch) (length (now (g .depth))) (length (now (g .stencil))) ≡ 0)
+    (formatCode (c .kind .given .0 .0) ≡ g .format) × (refusalOf (g .format) (g .layout) (length (now (g .packed))) (g .packed-pitch) (length (now (g .depth))) (length (now (g .stencil))) ≡ 0)
 found c = subst (Checked (c .before .before .before .before .before .before .args .format) _) (c .kind .given .1) (c .before .before .check .ensures)
 
 check-requires : tie.Need-check-requires
@@ -30,14 +30,14 @@ pack-rows-requires : tie.Need-pack-rows-requires
 pack-rows-requires c κs =
     let k = c .before .before in
     let g = k .before .before .before .before .before .before .args in
-    accepted-as (k .kind .given .0 .0) (g .format) (g .self) (length (now (g .packed))) (g .packed-pitch) (length (now (g .depth))) (length (now (g .stencil))) (found k)
+    accepted-as (k .kind .given .0 .0) (g .format) (g .layout) (length (now (g .packed))) (g .packed-pitch) (length (now (g .depth))) (length (now (g .stencil))) (found k)
 
 returns : tie.Need-returns
 returns c =
     let k = c .before in
     let g = k .before .before .before .before .before .before .args in
     let e = subst (Checked (g .format) _) (k .reply .given .1) (k .before .before .check .ensures) in
-    pack-refused (g .format) (g .self) (now (g .packed)) (g .packed-pitch) (now (g .depth)) (now (g .stencil)) _ (e .0) (e .1)
+    pack-refused (g .format) (g .layout) (now (g .packed)) (g .packed-pitch) (now (g .depth)) (now (g .stencil)) _ (e .0) (e .1)
 
 same-length : tie.Need-same-length
 same-length c = search needs
@@ -46,8 +46,8 @@ returns-2 : tie.Need-returns-2
 returns-2 c =
     let k = c .before .before .before .before .before in
     let g = k .before .before .before .before .before .before .args in
-    pack-accepted (g .format) (g .self) (now (g .packed)) (g .packed-pitch) (now (g .depth)) (now (g .stencil)) (found k .1) (λ i. omega (arith, k .before .before .before .before .shared-slice-known2 .given i)) _
-    (c .before .before .pack-rows .ensures ∙ ap (λ f. packedPixels f (g .self) (now (g .depth)) (now (g .stencil)) (g .packed-pitch) (now (g .packed))) (found k .0))
+    pack-accepted (g .format) (g .layout) (now (g .packed)) (g .packed-pitch) (now (g .depth)) (now (g .stencil)) (found k .1) (λ i. omega (arith, k .before .before .before .before .shared-slice-known2 .given i)) _
+    (c .before .before .pack-rows .ensures ∙ ap (λ f. packedPixels f (g .layout) (now (g .depth)) (now (g .stencil)) (g .packed-pitch) (now (g .packed))) (found k .0))
 
 pub pack-spec : {M : Type 1} → statement M
 pack-spec =

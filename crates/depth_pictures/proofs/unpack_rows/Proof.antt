@@ -1,4 +1,4 @@
--- `depth_texture::unpack_rows` meets its contract: row by row, in both planes. Assumes nothing.
+-- `depth_pictures::unpack_rows` meets its contract: row by row, in both planes. Assumes nothing.
 use mathlib.Core.Path.{_≡_, refl, _∙_}
 use Prim.Native.Nat.{_-_, _≤_}
 use native.Mathlib.Nat.{le-antisymm}
@@ -9,12 +9,12 @@ use denote.Ref.{now}
 use Rattle.formats.specs.Table.{bytesOf}
 use Rattle.depth_pixels.specs.Pixels.{formatCode}
 use Rattle.depth_pixels.specs.Pictures.{place, written, rows-none}
 use Rattle.depth_texture.specs.Refusals.{RowsWithin, rows-within}
 use Rattle.depth_pixels.specs.PixelBytes.{depthBytes}
 use Rattle.depth_texture.specs.Planes.{depthPlane, stencilPlane}
 use Rattle.depth_rows.proofs.Rows.{stencilRows, stencils-none, stencils-more, depths-more, row-begins}
-use Rattle.depth_texture.proofs.unpack_rows.Statement.{statement}
-use Rattle.depth_texture.proofs.unpack_rows.Tie as tie
+use Rattle.depth_pictures.proofs.unpack_rows.Statement.{statement}
+use Rattle.depth_pictures.proofs.unpack_rows.Tie as tie
 
 abbrev Inv-loop : tie.InvT-loop
 Inv-loop kind packed packed-pitch depth₀ stencil₀ width height depth-pitch stencil-pitch y₀ depth stencil y =

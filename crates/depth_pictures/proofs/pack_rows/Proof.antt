@@ -1,4 +1,4 @@
--- `depth_texture::pack_rows` meets its contract: row by row. Assumes nothing.
+-- `depth_pictures::pack_rows` meets its contract: row by row. Assumes nothing.
 use mathlib.Core.Path.{_≡_, refl, _∙_}
 use Prim.Native.Nat.{_-_, _≤_}
 use native.Mathlib.Nat.{le-antisymm}
@@ -9,12 +9,12 @@ use denote.Ref.{now}
 use Rattle.formats.specs.Table.{bytesOf}
 use Rattle.depth_pixels.specs.Pixels.{formatCode}
 use Rattle.depth_pixels.specs.Pictures.{place, written, rows-none}
 use Rattle.depth_texture.specs.Refusals.{RowsWithin, rows-within}
 use Rattle.depth_pixels.specs.PixelBytes.{packedBytes}
 use Rattle.depth_texture.specs.Planes.{packedPixels}
 use Rattle.depth_rows.proofs.Rows.{packed-more, row-begins}
-use Rattle.depth_texture.proofs.pack_rows.Statement.{statement}
-use Rattle.depth_texture.proofs.pack_rows.Tie as tie
+use Rattle.depth_pictures.proofs.pack_rows.Statement.{statement}
+use Rattle.depth_pictures.proofs.pack_rows.Tie as tie
 
 abbrev Inv-loop : tie.InvT-loop
 Inv-loop kind depth stencil packed₀ packed-pitch width height depth-pitch stencil-pitch y₀ packed y =
