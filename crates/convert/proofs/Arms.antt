@@ -11,7 +11,8 @@ use Rattle.words.specs.Computed.{both, both-left, both-right}
 use Rattle.words.specs.Tests.{pick}
 use Rattle.formats.specs.Classes.{listed}
 use Rattle.formats.specs.Table.{bytesOf}
-use Rattle.convert.specs.Fill.{Fill, Codes, HandsBack, laneCode, fillFormats, filled, refused, wordOf, fillOf, replyNumber}
+use Rattle.colours.specs.LaneCodes.{Codes, laneCode}
+use Rattle.convert.specs.Fill.{Fill, HandsBack, fillFormats, filled, refused, wordOf, fillOf, replyNumber}
 use Rattle.convert.specs.declared.FillPixel.{FillPixel}
 use Rattle.formats.specs.Lanes.{Kind}
 

@@ -2,39 +2,19 @@
 -- Assumes nothing.
 use mathlib.Core.Path.{_≡_}
 use mathlib.Core.List.{List, [], _∷_, _++_}
-use Prim.Native.Nat.{ℕ, _*_, _-_, _^_}
-use lib.Dec.{eqb}
+use Prim.Native.Nat.{ℕ, _-_}
 use lib.ListN.{replicate}
-use lib.Ieee.{binary32, toBits}
 use Rattle.words.specs.Little.{bytes}
 use Rattle.words.specs.Tests.{pick}
 use Rattle.formats.specs.Codes.{A8R8G8B8, X8R8G8B8, A8B8G8R8, X8B8G8R8, A2R10G10B10, A2B10G10R10, R5G6B5, A1R5G5B5, X1R5G5B5, A4R4G4B4, L8, A8, V8U8, Q8W8V8U8, V16U16, Q16W16V16U16, R32F, G32R32F, A32B32G32R32F, R16F, G16R16, A16B16G16R16, G16R16F, A16B16G16R16F}
-use Rattle.formats.specs.Lanes.{Kind, unsigned, signed, float16, float32, ignored, packed}
+use Rattle.formats.specs.Lanes.{packed}
 use Rattle.formats.specs.Table.{partsOf, bytesOf}
 use Rattle.formats.specs.Classes.{listed}
-use Rattle.channels.specs.Expansion.{truncated}
-use Rattle.channels.specs.Nearest.{rounded}
-use Rattle.binary16.specs.Half.{halfOf}
-use Rattle.convert.specs.Color.{byteOf, unormOf}
+use Rattle.colours.specs.Color.{byteOf}
+use Rattle.colours.specs.LaneCodes.{laneCode}
 use Rattle.convert.specs.declared.FillReply.{FillReply}
 use Rattle.convert.specs.declared.FillReply.the-variants.{Filled, NoFill}
 use Rattle.convert.specs.declared.FillPixel.{FillPixel}
-
--- the n-bit code nearest to v / 255 on a scale whose top code is max
-abbrev pub nearestCode : (max v : ℕ) → ℕ
-nearestCode max v = rounded (v * max) 255
-
--- the byte v in an unsigned lane of n bits: 257 times it in 16 bits, the nearest code in 2 and in 10, and else its top bits
-abbrev pub unsignedCode : (n v : ℕ) → ℕ
-unsignedCode n v = pick (eqb n 16) (v * 257) (pick (listed n (2 ∷ 10 ∷ [])) (nearestCode (2 ^ n - 1) v) (truncated n v))
-
--- the byte v in a lane of n bits of each kind; a signed code is not negative, and an X holds top bits
-abbrev pub laneCode : Kind → (n v : ℕ) → ℕ
-laneCode unsigned n v = unsignedCode n v
-laneCode signed n v = nearestCode (2 ^ (n - 1) - 1) v
-laneCode float16 n v = halfOf (toBits binary32 (unormOf v))
-laneCode float32 n v = toBits binary32 (unormOf v)
-laneCode ignored n v = truncated n v
 
 -- the texel of a colour in the format f, as a word
 unfoldable pub wordOf : (color f : ℕ) → ℕ
@@ -74,10 +54,3 @@ pub record HandsBack (f : Fill) (r : FillPixel) : Type 0 where
   pub bytes : r .bytes ≡ f .bytes
   pub len : r .len ≡ f .len
   pub reply : replyNumber (r .reply) ≡ f .reply
-
--- four lanes of one kind and width hold the codes of four bytes
-pub record Codes (k : Kind) (n r g b a r′ g′ b′ a′ : ℕ) : Type 0 where
-  pub red : r′ ≡ laneCode k n r
-  pub green : g′ ≡ laneCode k n g
-  pub blue : b′ ≡ laneCode k n b
-  pub alpha : a′ ≡ laneCode k n a

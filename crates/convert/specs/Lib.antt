@@ -1,4 +1,3 @@
 -- What the contracts cite, and laws that other crates cite.
-pub mod Color
 pub mod Fill
 pub mod Unmoved

@@ -12,8 +12,9 @@ use Rattle.formats.specs.Lanes.{Channel, red, green, blue, alpha, luminance, de
 use Rattle.formats.specs.Table.{partsOf}
 use Rattle.channels.specs.Luminance.{luminance-byte}
 use Rattle.binary16.specs.Faint.{faint, originalHalf, elsewhere}
-use Rattle.convert.specs.Color.{byteOf, unormOf}
-use Rattle.convert.specs.Fill.{laneCode, wordOf}
+use Rattle.colours.specs.Color.{byteOf, unormOf}
+use Rattle.colours.specs.LaneCodes.{laneCode}
+use Rattle.convert.specs.Fill.{wordOf}
 
 -- the pattern of channel/255 is none of the interval's: computed for each byte
 abbrev apartTest : ℕ → Bool

@@ -13,7 +13,7 @@ ghost use Rattle.regions.specs.Regions.{convertedWith, convertedBytes, NearWith
 ghost use Rattle.formats.specs.Table.{bytesOf};
 ghost use Rattle.formats.specs.Lanes.{red, green, blue, alpha};
 ghost use Rattle.binary16.specs.Half.{halfOf, HalfOf};
-ghost use Rattle.convert.specs.Color.{byteOf, unormOf};
+ghost use Rattle.colours.specs.Color.{byteOf, unormOf};
 ghost use Rattle.convert.specs.Fill.{fillOf};
 ghost use Rattle.splat.specs.Splat.{Splat};
 ghost use Rattle.depth_texture.specs.Layouts.{layout, layoutRefusal, layoutFor, Stands, Pitches};
@@ -241,7 +241,7 @@ pub extern "C" fn wentuqis_f32_to_f16_bits(bits: u32) -> u16
 pub extern "C" fn wentuqis_d3dcolor_to_rgba_f32(color: u32, rgba: &mut [f32; 4])
     ensures is { λ _. ⌜ now (rgba .exit) ≡ (unormOf (byteOf color red) ∷ unormOf (byteOf color green) ∷ unormOf (byteOf color blue) ∷ unormOf (byteOf color alpha) ∷ []) ⌝ }
 {
-    *rgba = convert::d3dcolor_to_rgba_f32(color);
+    *rgba = colours::d3dcolor_to_rgba_f32(color);
 }
 
 // ---- depth

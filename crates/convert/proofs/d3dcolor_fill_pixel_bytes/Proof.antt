@@ -14,7 +14,8 @@ use Rattle.formats.specs.Lanes.{float16, float32}
 use Rattle.formats.specs.Table.{partsOf, bytesOf}
 use Rattle.channels.specs.Luminance.{luminanceOf}
 use Rattle.channels.specs.Expansion.{truncated}
-use Rattle.convert.specs.Fill.{nearestCode, fillFormats, wordOf, laneCode}
+use Rattle.colours.specs.LaneCodes.{nearestCode, laneCode}
+use Rattle.convert.specs.Fill.{fillFormats, wordOf}
 use Rattle.convert.proofs.Arms.{Says, arm, no-arm, NoKey, no-key, not-key, part-no, coded}
 use Rattle.convert.proofs.d3dcolor_fill_pixel_bytes.Statement.{statement}
 use Rattle.convert.proofs.d3dcolor_fill_pixel_bytes.Tie as tie

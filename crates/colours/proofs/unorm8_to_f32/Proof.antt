@@ -1,10 +1,10 @@
--- `convert::unorm8_to_f32` meets its contract: the literal is the whole number 255. Assumes nothing.
+-- `colours::unorm8_to_f32` meets its contract: the literal is the whole number 255. Assumes nothing.
 use mathlib.Core.Path.{_≡_, refl, ap}
 use lib.IntN.{pos}
 use lib.Ieee.{Float, binary32, ofInt, ofBits, div}
 use borrow.Author.Needs.{needs}
-use Rattle.convert.proofs.unorm8_to_f32.Statement.{statement}
-use Rattle.convert.proofs.unorm8_to_f32.Tie as tie
+use Rattle.colours.proofs.unorm8_to_f32.Statement.{statement}
+use Rattle.colours.proofs.unorm8_to_f32.Tie as tie
 
 literal : ofBits binary32 0x437f_0000 ≡ ofInt binary32 (pos 255)
 unfolding ofBits ofInt

@@ -1,9 +1,9 @@
--- `convert::pack_a4r4g4b4` meets its contract: shifts and ors are sums, by `four` at the width 4. Assumes nothing.
+-- `colours::pack_a4r4g4b4` meets its contract: shifts and ors are sums, by `four` at the width 4. Assumes nothing.
 use native.Mathlib.Omega.{arith}
-use Rattle.convert.proofs.Lanes.{four, top-bits}
+use Rattle.colours.proofs.Lanes.{four, top-bits}
 use borrow.Author.Needs.{needs}
-use Rattle.convert.proofs.pack_a4r4g4b4.Statement.{statement}
-use Rattle.convert.proofs.pack_a4r4g4b4.Tie as tie
+use Rattle.colours.proofs.pack_a4r4g4b4.Statement.{statement}
+use Rattle.colours.proofs.pack_a4r4g4b4.Tie as tie
 
 truncate4-requires : tie.Need-truncate4-requires
 truncate4-requires c κs = search needs

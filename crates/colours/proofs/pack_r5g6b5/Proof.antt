@@ -1,9 +1,9 @@
--- `convert::pack_r5g6b5` meets its contract: shifts and ors are sums, by `three` at the widths 5, 6, 5. Assumes nothing.
+-- `colours::pack_r5g6b5` meets its contract: shifts and ors are sums, by `three` at the widths 5, 6, 5. Assumes nothing.
 use native.Mathlib.Omega.{arith}
-use Rattle.convert.proofs.Lanes.{three, top-bits}
+use Rattle.colours.proofs.Lanes.{three, top-bits}
 use borrow.Author.Needs.{needs}
-use Rattle.convert.proofs.pack_r5g6b5.Statement.{statement}
-use Rattle.convert.proofs.pack_r5g6b5.Tie as tie
+use Rattle.colours.proofs.pack_r5g6b5.Statement.{statement}
+use Rattle.colours.proofs.pack_r5g6b5.Tie as tie
 
 truncate5-requires : tie.Need-truncate5-requires
 truncate5-requires c κs = search needs

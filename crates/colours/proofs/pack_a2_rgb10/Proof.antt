@@ -1,9 +1,9 @@
--- `convert::pack_a2_rgb10` meets its contract: shifts and ors are sums, by `four` at the widths 2, 10, 10, 10. Assumes nothing.
+-- `colours::pack_a2_rgb10` meets its contract: shifts and ors are sums, by `four` at the widths 2, 10, 10, 10. Assumes nothing.
 use native.Mathlib.Omega.{arith}
-use Rattle.convert.proofs.Lanes.{four, nearest-bits}
+use Rattle.colours.proofs.Lanes.{four, nearest-bits}
 use borrow.Author.Needs.{needs}
-use Rattle.convert.proofs.pack_a2_rgb10.Statement.{statement}
-use Rattle.convert.proofs.pack_a2_rgb10.Tie as tie
+use Rattle.colours.proofs.pack_a2_rgb10.Statement.{statement}
+use Rattle.colours.proofs.pack_a2_rgb10.Tie as tie
 
 unorm8-to-unorm2-requires : tie.Need-unorm8-to-unorm2-requires
 unorm8-to-unorm2-requires c κs = search needs

@@ -1,9 +1,9 @@
--- `convert::unorm8_to_f16_bits` meets its contract: the binary16 pattern of the quotient's bits. Assumes nothing.
+-- `colours::unorm8_to_f16_bits` meets its contract: the binary16 pattern of the quotient's bits. Assumes nothing.
 use mathlib.Core.Path.{ap, _∙_}
 use Rattle.binary16.specs.Half.{halfOf}
 use borrow.Author.Needs.{needs}
-use Rattle.convert.proofs.unorm8_to_f16_bits.Statement.{statement}
-use Rattle.convert.proofs.unorm8_to_f16_bits.Tie as tie
+use Rattle.colours.proofs.unorm8_to_f16_bits.Statement.{statement}
+use Rattle.colours.proofs.unorm8_to_f16_bits.Tie as tie
 
 unorm8-to-f32-bits-requires : tie.Need-unorm8-to-f32-bits-requires
 unorm8-to-f32-bits-requires c κs = search needs

@@ -1,7 +1,7 @@
--- `convert::d3dcolor_to_rgba_f32` meets its contract: each channel's byte, divided. Assumes nothing.
+-- `colours::d3dcolor_to_rgba_f32` meets its contract: each channel's byte, divided. Assumes nothing.
 use borrow.Author.Needs.{needs}
-use Rattle.convert.proofs.d3dcolor_to_rgba_f32.Statement.{statement}
-use Rattle.convert.proofs.d3dcolor_to_rgba_f32.Tie as tie
+use Rattle.colours.proofs.d3dcolor_to_rgba_f32.Statement.{statement}
+use Rattle.colours.proofs.d3dcolor_to_rgba_f32.Tie as tie
 
 channels-of-requires : tie.Need-channels-of-requires
 channels-of-requires c κs = search needs

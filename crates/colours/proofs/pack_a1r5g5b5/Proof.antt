@@ -1,9 +1,9 @@
--- `convert::pack_a1r5g5b5` meets its contract: shifts and ors are sums, by `four` at the widths 1, 5, 5, 5. Assumes nothing.
+-- `colours::pack_a1r5g5b5` meets its contract: shifts and ors are sums, by `four` at the widths 1, 5, 5, 5. Assumes nothing.
 use native.Mathlib.Omega.{arith}
-use Rattle.convert.proofs.Lanes.{four, top-bits}
+use Rattle.colours.proofs.Lanes.{four, top-bits}
 use borrow.Author.Needs.{needs}
-use Rattle.convert.proofs.pack_a1r5g5b5.Statement.{statement}
-use Rattle.convert.proofs.pack_a1r5g5b5.Tie as tie
+use Rattle.colours.proofs.pack_a1r5g5b5.Statement.{statement}
+use Rattle.colours.proofs.pack_a1r5g5b5.Tie as tie
 
 truncate1-requires : tie.Need-truncate1-requires
 truncate1-requires c κs = search needs

@@ -1,12 +1,12 @@
--- `convert::unorm8_to_f32_bits` meets its contract: no quotient of a byte is a NaN, so it has bits. Assumes nothing.
+-- `colours::unorm8_to_f32_bits` meets its contract: no quotient of a byte is a NaN, so it has bits. Assumes nothing.
 use mathlib.Core.Path.{sym, ap, subst}
 use mathlib.Core.Bool.{not}
 use lib.Dec.{T}
 use lib.Ieee.{Float, binary32, isNan, toBits}
 use borrow.Author.Needs.{needs}
-use Rattle.convert.specs.Color.{unorm-number}
-use Rattle.convert.proofs.unorm8_to_f32_bits.Statement.{statement}
-use Rattle.convert.proofs.unorm8_to_f32_bits.Tie as tie
+use Rattle.colours.specs.Color.{unorm-number}
+use Rattle.colours.proofs.unorm8_to_f32_bits.Statement.{statement}
+use Rattle.colours.proofs.unorm8_to_f32_bits.Tie as tie
 
 unorm8-to-f32-requires : tie.Need-unorm8-to-f32-requires
 unorm8-to-f32-requires c κs = search needs
