@@ -1,6 +1,8 @@
 // Binary32 patterns as binary16 patterns. specs/ has the number that a code stands for (Units), and the pattern that a binary32 pattern
 // becomes, as the nearest code and as a number that computes (Half).
 // Ported from convert.rs of athei/mtld3d (an altered version, see NOTICE).
+#![tactic(auto)]
+
 ghost use Rattle.std.specs.Prelude.{◌≡◌, ◌≤◌, ◌<◌};
 ghost use Rattle.std.specs.Float.{binary32};
 ghost use Rattle.std.specs.Float.Ieee.{of_bits};

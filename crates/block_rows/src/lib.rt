@@ -1,5 +1,7 @@
 // A row of a source with lanes, converted block by block: the RGB formats into each other, and wide, ten-bit, 16-bit and signed formats
 // into A8R8G8B8. Ported from pixel_convert.rs of athei/mtld3d (an altered version, see NOTICE).
+#![tactic(auto)]
+
 ghost use Rattle.std.specs.Prelude.{◌≡◌, true, ◌≤◌, min, length};
 ghost use Rattle.formats.specs.Table.{bytes_of};
 ghost use Rattle.formats.specs.Classes.{is_lane_source};

@@ -2,6 +2,8 @@
 // and written from it in their destination's format. A loop carries the offset of its texel and adds the texel size; the decoder and
 // the encoder are lent the part that starts there. specs/Blocks has what it is to read and to write a block.
 // Ported from pixel_convert.rs of athei/mtld3d (an altered version, see NOTICE).
+#![tactic(auto)]
+
 ghost use Rattle.std.specs.Prelude.{◌≡◌, true, ◌+◌, ◌*◌, ◌≤◌, ◌<◌, length};
 ghost use Rattle.formats.specs.Codes.{R8G8B8};
 ghost use Rattle.formats.specs.Table.{bytes_of};

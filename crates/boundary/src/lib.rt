@@ -1,5 +1,7 @@
 // What crosses the boundary of the library: a region from its numbers, the number of a reply, and the values that a layout hands back,
 // which are zeros where it is refused.
+#![tactic(auto)]
+
 ghost use Rattle.std.specs.Prelude.{◌≡◌};
 ghost use Rattle.planar_yuv.specs.Answers.{reply_of};
 ghost use Rattle.convert.specs.Fill.{reply_number};

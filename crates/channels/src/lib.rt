@@ -4,6 +4,8 @@
 // bits. specs/ has each as a law over the width, the maximum or the number, with its error: Expansion, Nearest, Luminance,
 // Floats, Exact; Even joins the nearest with a tie to the even one to the way a shift computes it, and says on which scales
 // a half up is the same.
+#![tactic(auto)]
+
 ghost use Rattle.std.specs.Prelude.{◌≡◌, ◌*◌, ◌≤◌, ◌<◌, ◌%◌, ◌^◌, min};
 ghost use Rattle.std.specs.Float.{binary32};
 ghost use Rattle.std.specs.Float.Ieee.{of_bits};

@@ -1,6 +1,8 @@
 // Colours as lanes: a D3DCOLOR's channels, as numbers from 0 to 1, as the codes of lanes, and as words of lanes. Nothing is refused.
 // specs/LaneCodes says which code a lane holds of a byte.
 // Ported from convert.rs of athei/mtld3d (an altered version, see NOTICE).
+#![tactic(auto)]
+
 ghost use Rattle.std.specs.Prelude.{◌≡◌, [], ◌∷◌, ◌+◌, ◌*◌};
 ghost use Rattle.std.specs.Float.{binary32};
 ghost use Rattle.std.specs.Float.Ieee.{to_bits};

@@ -2,6 +2,8 @@
 // A format code that has no fill is refused, with sixteen zeros and the length 0; nothing else is refused.
 // specs/Fill says which bytes: the codes in the lanes of formats' table.
 // Ported from convert.rs of athei/mtld3d (an altered version, see NOTICE).
+#![tactic(auto)]
+
 ghost use Rattle.std.specs.Prelude.{◌≡◌, ◌+◌, ◌*◌};
 ghost use Rattle.convert.specs.Fill.{filled, refused, fill_of, reply_number, HandsBack};
 

@@ -2,6 +2,8 @@
 // are a pair that does not convert, a planar source that is no single slice of whole rows, a YUV source with a set of numbers that is
 // not legal, and a region with a texel outside the source or the destination. specs/Replies has the checks in their order; where texels lie is in the crate `places`.
 // Ported from pixel_convert.rs of athei/mtld3d (an altered version, see NOTICE).
+#![tactic(auto)]
+
 ghost use Rattle.std.specs.Prelude.{◌≡◌, true, false, ◌&&◌, eqb};
 ghost use Rattle.formats.specs.Codes.{A8R8G8B8};
 ghost use Rattle.formats.specs.Classes.{is_convertible_rgb, is_planar_yuv, is_yuv, is_argb_source};

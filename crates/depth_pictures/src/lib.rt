@@ -1,6 +1,8 @@
 // Pictures of packed depth pixels, unpacked into planes of binary32 depths and of stencil bytes, and packed from them. The layouts of
 // the planes, the replies, and what is written and promised are in the crate `depth_texture`, rows in `depth_rows`.
 // Ported from depth_texture.rs of athei/mtld3d (an altered version, see NOTICE).
+#![tactic(auto)]
+
 ghost use Rattle.std.specs.Prelude.{◌≡◌, length};
 ghost use Rattle.formats.specs.Table.{bytes_of};
 ghost use Rattle.depth_pixels.specs.Pixels.{format_code, KeepsAll};

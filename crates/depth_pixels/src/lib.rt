@@ -2,6 +2,8 @@
 // (Pixels), their bytes (PixelBytes) and pictures of them (Pictures); Restoration shows that packing what was unpacked restores the
 // code.
 // Ported from depth_texture.rs of athei/mtld3d (an altered version, see NOTICE).
+#![tactic(auto)]
+
 ghost use Rattle.std.specs.Prelude.{◌≡◌, not, ◌+◌, ◌-◌, ◌%◌, ◌≤◌, ◌<◌, max, length, T};
 ghost use Rattle.std.proofs.lemmas.List.Edits.{sets};
 ghost use Rattle.std.specs.Float.{binary32};

@@ -1,6 +1,8 @@
 // Rows of packed depth pixels (D16, D24X8, D24S8) to the rows of a depth plane and a stencil plane, and back. What a row is stands in
 // the specs/ of `depth_pixels`: its pixels and their bytes (PixelBytes), and what writing it makes of a buffer (Pictures).
 // Ported from depth_texture.rs of athei/mtld3d (an altered version, see NOTICE).
+#![tactic(auto)]
+
 ghost use Rattle.std.specs.Prelude.{◌≡◌, true, not, [], ◌+◌, ◌*◌, ◌≤◌, length, T};
 ghost use Rattle.std.specs.Float.Ieee.{is_nan};
 ghost use Rattle.formats.specs.Codes as codes;

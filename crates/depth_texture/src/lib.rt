@@ -4,6 +4,8 @@
 // that are too short. specs/ has the layouts (Layouts), the refusals (Replies), what the two calls write (Planes) and what they promise
 // (Promises); the calls are in `depth_pictures`, the pixels in `depth_pixels`.
 // Ported from depth_texture.rs of athei/mtld3d (an altered version, see NOTICE).
+#![tactic(auto)]
+
 ghost use Rattle.std.specs.Prelude.{◌≡◌, ◌+◌, ◌*◌, ◌<◌, max, leb, eqb};
 ghost use Rattle.words.specs.Multiples.{raised};
 ghost use Rattle.depth_pixels.specs.Pixels.{format_code};

@@ -1,6 +1,8 @@
 // The formats of Direct3D 9 that this library knows: their codes, their classes and the bytes of a texel, from format.rs and
 // caps.rs of athei/mtld3d (an altered version, see NOTICE). specs/Codes has the codes, specs/Table the lane table: for each
 // format the lowest bit, the width and the kind of each channel, as D3DFORMAT's names list them.
+#![tactic(auto)]
+
 ghost use Rattle.std.specs.Prelude.{◌≡◌, ◌≤◌};
 ghost use Rattle.formats.specs.Table.{bytes_of};
 ghost use Rattle.words.specs.Multiples.{Raised};

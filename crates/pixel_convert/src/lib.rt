@@ -2,6 +2,8 @@
 // set of numbers, and wide, ten-bit, 16-bit and signed formats into A8R8G8B8. What the bytes are and what is promised of them is in the
 // crate `regions`, the reply in `convert_reply`, what texels decode and encode to in `texels`, where they lie in `places`, rows of YUV in
 // `yuv_rows`, rows of all other sources in `block_rows`. Ported from pixel_convert.rs of athei/mtld3d (an altered version, see NOTICE).
+#![tactic(auto)]
+
 ghost use Rattle.std.specs.Prelude.{◌≡◌, false, ℕ, ◌≤◌, ◌<◌, length};
 ghost use Rattle.formats.specs.Table.{bytes_of};
 ghost use Rattle.convert_reply.specs.Replies.{illegal_set, reply_with, convert_reply};
@@ -34,8 +36,8 @@ fn convert_row(
         );
         return;
     }
-    yuv_rows::yuv_row(
-        numbers, dst, dst_format, to_size, src, src_format, region, z, row,
+    yuv_rows::texel_row(
+        numbers, dst, dst_format, to_size, src, src_format, from_size, region, z, row,
     );
 }
 

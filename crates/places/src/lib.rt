@@ -1,6 +1,8 @@
 // Where the bytes of a texel lie, and whether every texel of a region lies inside a buffer: formats whose texels are words, packed YUV
 // and planar YUV. specs/Places has the offsets that a texel needs and what inside means.
 // Ported from pixel_convert.rs of athei/mtld3d (an altered version, see NOTICE).
+#![tactic(auto)]
+
 ghost use Rattle.std.specs.Prelude.{◌≡◌, true, ◌+◌, ◌<◌, ◌/◌, leb};
 ghost use Rattle.planar_yuv.specs.Offsets.{u_offset_at, v_offset_at};
 ghost use Rattle.planar_yuv.specs.Answers.{layout_of, from_pitch, Legal, TexelOf};

@@ -2,6 +2,8 @@
 // NOTICE). A frame is one allocation: luma rows of pitch bytes, then the chroma at half the resolution both ways. YV12 has a
 // plane of V and then one of U, in rows of half the pitch; NV12 has one plane of U and V in pairs. Refused (14) is any other
 // format, a pitch or luma rows outside 1 to 16384, an odd pitch, odd luma rows of YV12, and more than 16384 rows in all.
+#![tactic(auto)]
+
 ghost use Rattle.std.specs.Prelude.{◌≡◌, ◌+◌};
 ghost use Rattle.formats.specs.Codes.{NV12};
 ghost use Rattle.planar_yuv.specs.Offsets.{contains, luma_offset_at, nv12_u, yv12_u, yv12_v};

@@ -4,6 +4,8 @@
 // src/buffers.rt describe. oracle/record.rs recorded all four, from the original Rust; for pairs of formats that it does not
 // convert, from the exact fractions of oracle/stills.rs; for sets of YUV numbers that it does not have, from the whole numbers of
 // oracle/sets.rs; and for binary16 between 2^-25 and 2^-24, from oracle/float16.c. oracle/README.md lists the calls.
+#![tactic(auto)]
+
 mod buffers;
 mod values;
 
@@ -225,7 +227,6 @@ fn print_public_counts(cases: [u64; 32], refused: [u64; 32], differ: [u64; 32]) 
     print_public(b"pack                         ", 27, cases, refused, differ);
     print_public(b"splat_pixel_pattern          ", 28, cases, refused, differ);
     print_public(b"convert_region_with_set      ", 30, cases, refused, differ);
-    print_public(b"yuv_to_rgb8_by_tables        ", 31, cases, refused, differ);
 }
 
 fn main() {

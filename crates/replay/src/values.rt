@@ -16,7 +16,6 @@ pub(crate) fn agrees(call: u32, case: &[u8]) -> bool
         22 => d3dcolor_fill_pixel_bytes(case),
         23 => f32_to_f16_bits(case),
         24 => d3dcolor_to_rgba_f32(case),
-        31 => yuv_to_rgb8_by_tables(case),
         _ => false,
     }
 }
@@ -58,17 +57,6 @@ fn yuv_to_rgb8(case: &[u8]) -> bool
     let cr = words::le8(&case[24..]);
     let mut rgb = [0x5au8; 3];
     wentuqis::wentuqis_yuv_to_rgb8(luma, cb, cr, &mut rgb);
-    same_rgb(case, rgb)
-}
-
-fn yuv_to_rgb8_by_tables(case: &[u8]) -> bool
-    requires { 64 ≤ length case.now }
-{
-    let luma = words::le8(&case[8..]);
-    let cb = words::le8(&case[16..]);
-    let cr = words::le8(&case[24..]);
-    let mut rgb = [0x5au8; 3];
-    wentuqis::wentuqis_yuv_to_rgb8_by_tables(luma, cb, cr, &mut rgb);
     same_rgb(case, rgb)
 }
 

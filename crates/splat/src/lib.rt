@@ -1,5 +1,7 @@
 // A pattern of bytes repeated over a buffer, at the speed of memory. specs/Splat says which byte stands where.
 // Ported from convert.rs of athei/mtld3d (an altered version, see NOTICE).
+#![tactic(auto)]
+
 ghost use Rattle.std.specs.Prelude.{◌≡◌, ◌+◌, ◌*◌, ◌-◌, ◌%◌, ◌≤◌, ◌<◌, length, take, drop};
 ghost use Rattle.std.proofs.lemmas.List.Edits.{sets};
 ghost use Rattle.splat.specs.Splat.{Splat, WholePatterns};

@@ -4,4 +4,3 @@ pub mod Samples
 pub mod Nearness
 pub mod Decimals
 pub mod Exact
-pub mod Sums

@@ -2,7 +2,10 @@
 // of luma, U and V becomes red, green and blue in 16.16 fixed point, by a set of numbers; right shifts of negative numbers round down,
 // and each channel is rounded to the nearest whole number and clamped to a byte. Nothing is refused: the inner parts ask for the
 // texel's own bytes and for a legal set.
-ghost use Rattle.std.specs.Prelude.{◌≡◌, true, ◌≤◌, length};
+#![tactic(auto)]
+
+ghost use Rattle.std.specs.Prelude.{◌≡◌, true, ◌≤◌, ◌<◌, length};
+ghost use Rattle.std.specs.Int.Signed.{mag};
 ghost use Rattle.words.specs.Tests.{pick};
 ghost use Rattle.words.specs.Integers.{clamp_to};
 ghost use Rattle.formats.specs.Codes.{YUY2, UYVY, YV12, NV12};
@@ -10,7 +13,6 @@ ghost use Rattle.formats.specs.Classes.{is_packed_yuv, is_planar_yuv};
 ghost use Rattle.yuv_sets.specs.Sets.{bt601};
 ghost use Rattle.yuv_sets.specs.Legal.{Legal};
 ghost use Rattle.stretch_rect.specs.Yuv.{luma_part, chroma_part, nearest_whole, rgb_of, RgbNear, set_unit, set_slack, red_exact, green_exact, blue_exact, decimal_unit, decimal_slack, red_decimal, green_decimal, blue_decimal};
-ghost use Rattle.stretch_rect.specs.Sums.{Joined};
 ghost use Rattle.stretch_rect.specs.Samples.{packed_rgb, planar_rgb, Readable};
 
 use formats::{D3DFMT_YUY2, D3DFMT_YV12};
@@ -39,7 +41,7 @@ fn scaled_chroma(sample: u8, centre: u32, gain: u32) -> i64
 }
 
 fn to8(channel: i64) -> u8
-    requires { Joined 4398046511104 channel }
+    requires { mag channel < 4611686018427387904 }
     ensures { result ≡ clamp_to 255 (nearest_whole channel) }
 {
     let n = (channel + 32768) >> 16;

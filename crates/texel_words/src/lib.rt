@@ -1,6 +1,8 @@
 // A texel's word in one of the RGB formats, from a byte for each channel; and A8R8G8B8 words, read from texels and written as texels.
 // Crate `texels` has the definitions and decodes.
 // Ported from pixel_convert.rs of athei/mtld3d (an altered version, see NOTICE).
+#![tactic(auto)]
+
 ghost use Rattle.std.specs.Prelude.{◌≡◌, true, ◌≤◌, length, take};
 ghost use Rattle.std.proofs.lemmas.List.Edits.{sets};
 ghost use Rattle.words.specs.Little.{number};

@@ -1,5 +1,7 @@
 // What a viewer relies on, by the contracts of the exported calls alone: a depth picture comes back, and whatever is refused has left
 // every byte. specs/ has what follows of the definitions: demand 3, and the worked table. No part of the library.
+#![tactic(auto)]
+
 ghost use Rattle.std.specs.Prelude.{◌≡◌, ◌<◌, length};
 ghost use Rattle.depth_pixels.specs.Pixels.{KeepsAll};
 ghost use Rattle.depth_texture.specs.Layouts.{layout};

@@ -1,6 +1,8 @@
 // The library that Rust and C link: each public call under its plain name. A reply of 0 is acceptance, any other number is a
 // refusal: 1 to 14 of document 01, 15 of document 02. Nothing is asked of a caller that Rattle can see: every input has its reply, a
 // refused call leaves every lent byte as it was, and what is handed back is then zero.
+#![tactic(auto)]
+
 ghost use Rattle.std.specs.Prelude.{◌≡◌, [], ◌∷◌, ◌≤◌, ◌<◌, length, get_or};
 ghost use Rattle.planar_yuv.specs.Answers.{from_pitch, from_width};
 ghost use Rattle.yuv_sets.specs.Sets.{bt601};
@@ -152,16 +154,6 @@ pub extern "C" fn wentuqis_yuv_to_rgb8(luma: u8, cb: u8, cr: u8, rgb: &mut [u8; 
 {
     let p = stretch_rect::yuv_to_rgb8(luma, cb, cr);
     *rgb = [p.r, p.g, p.b];
-}
-
-// No refusal: the same colour as wentuqis_yuv_to_rgb8, by five tables.
-#[unsafe(no_mangle)]
-pub extern "C" fn wentuqis_yuv_to_rgb8_by_tables(luma: u8, cb: u8, cr: u8, rgb: &mut [u8; 3])
-    ensures is { rgb.new ≡ rgb_list (rgb_of bt601 luma cb cr) }
-    ensures near { RgbNear decimal_unit decimal_slack (red_decimal luma cb cr) (green_decimal luma cb cr) (blue_decimal luma cb cr) (colour_in rgb.new) }
-{
-    let q = yuv_tables::yuv_to_rgb8_by_tables(luma, cb, cr);
-    *rgb = [q.r, q.g, q.b];
 }
 
 // ---- planar layouts

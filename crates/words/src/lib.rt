@@ -1,5 +1,7 @@
 // Little-endian words of 1, 2, 3, 4 and 8 bytes, read from the front of a slice and stored there.
 // A word is read and stored as two shorter ones; the compiler joins these into one load or one store (two for 3 bytes).
+#![tactic(auto)]
+
 ghost use Rattle.std.specs.Prelude.{◌≡◌, ◌≤◌, length, take};
 ghost use Rattle.std.proofs.lemmas.List.Edits.{sets};
 ghost use Rattle.words.specs.Little.{number, bytes};

@@ -1,5 +1,7 @@
 // Sets of numbers for a conversion from YUV: which sets are legal, and the two that have names. The steps that a set is used in are in
 // the crate `stretch_rect`.
+#![tactic(auto)]
+
 ghost use Rattle.std.specs.Prelude.{◌≡◌};
 ghost use Rattle.yuv_sets.specs.Sets as sets;
 ghost use Rattle.yuv_sets.specs.Sets.{is_gain, is_legal, RoundedFrom};
