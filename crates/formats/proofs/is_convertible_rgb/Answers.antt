@@ -19,38 +19,38 @@ gap f l u ne = elim (dec_lt f 28) [
 pub returns-in_default : goal.returns-in_default
 unfolding is_convertible_rgb
 returns-in_default c =
-    out_of_range is_convertible_rgb 0 20 c.args.d3d_format (omega arith) c.if-d3d_format-lt20.true tt
+    out_of_range is_convertible_rgb 0 20 c.args.d3d_format (omega arith) c.in_default.if-d3d_format-lt20-own.true tt
 
 pub returns-in_default-2 : goal.returns-in_default-2
 returns-in_default-2 c =
-    gap c.args.d3d_format c.if-d3d_format-lt27.false c.if-d3d_format-lt32.true c.in_default-1.rest.1
+    gap c.args.d3d_format c.in_default.if-d3d_format-lt27-own.false c.in_default.if-d3d_format-lt32-own.true c.in_default.in_default-own.rest.1
 
 pub returns-in_default-3 : goal.returns-in_default-3
 unfolding is_convertible_rgb
 returns-in_default-3 c =
-    out_of_range is_convertible_rgb 34 50 c.args.d3d_format c.if-d3d_format-lt34.false c.if-d3d_format-lt50.true tt
+    out_of_range is_convertible_rgb 34 50 c.args.d3d_format c.in_default.if-d3d_format-lt34-own.false c.in_default.if-d3d_format-lt50-own.true tt
 
 pub returns-in_default-4 : goal.returns-in_default-4
 unfolding is_convertible_rgb
 returns-in_default-4 c =
-    listed_above 52 c.args.d3d_format rgb_formats c.if-d3d_format-lt52.false tt
+    listed_above 52 c.args.d3d_format rgb_formats c.in_default.if-d3d_format-lt52-own.false tt
 
 pub returns-in-21 : goal.returns-in-21
 unfolding is_convertible_rgb
 returns-in-21 c =
-    subst (λ (f : ℕ). true ≡ is_convertible_rgb f) (sym c.in_default-1.keys1) refl
+    subst (λ (f : ℕ). true ≡ is_convertible_rgb f) (sym c.in-21.is) refl
 
 pub returns-in-21-2 : goal.returns-in-21-2
 unfolding is_convertible_rgb
 returns-in-21-2 c =
-    in_range is_convertible_rgb 20 27 c.args.d3d_format c.if-d3d_format-lt20.false c.if-d3d_format-lt27.true tt
+    in_range is_convertible_rgb 20 27 c.args.d3d_format c.in-21.if-d3d_format-lt20-own.false c.in-21.if-d3d_format-lt27-own.true tt
 
 pub returns-in-21-3 : goal.returns-in-21-3
 unfolding is_convertible_rgb
 returns-in-21-3 c =
-    in_range is_convertible_rgb 32 34 c.args.d3d_format c.if-d3d_format-lt32.false c.if-d3d_format-lt34.true tt
+    in_range is_convertible_rgb 32 34 c.args.d3d_format c.in-21.if-d3d_format-lt32-own.false c.in-21.if-d3d_format-lt34-own.true tt
 
 pub returns-in-21-4 : goal.returns-in-21-4
 unfolding is_convertible_rgb
 returns-in-21-4 c =
-    in_range is_convertible_rgb 50 52 c.args.d3d_format c.if-d3d_format-lt50.false c.if-d3d_format-lt52.true tt
+    in_range is_convertible_rgb 50 52 c.args.d3d_format c.in-21.if-d3d_format-lt50-own.false c.in-21.if-d3d_format-lt52-own.true tt

@@ -8,9 +8,9 @@ use Rattle.formats.proofs.is_packed_yuv.Goals as goal
 pub returns-in-844715353 : goal.returns-in-844715353
 unfolding is_packed_yuv
 returns-in-844715353 c =
-    listed_yes (YUY2 ∷ UYVY ∷ []) c.args.d3d_format c.in_default.keys1
+    listed_yes (YUY2 ∷ UYVY ∷ []) c.args.d3d_format c.in-844715353.is
 
 pub returns-in_default : goal.returns-in_default
 unfolding is_packed_yuv
 returns-in_default c =
-    listed_no (YUY2 ∷ UYVY ∷ []) c.args.d3d_format c.in_default.rest.1
+    listed_no (YUY2 ∷ UYVY ∷ []) c.args.d3d_format c.in_default.in_default-own.rest.1

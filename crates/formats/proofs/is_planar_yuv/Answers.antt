@@ -8,9 +8,9 @@ use Rattle.formats.proofs.is_planar_yuv.Goals as goal
 pub returns-in-842094169 : goal.returns-in-842094169
 unfolding is_planar_yuv
 returns-in-842094169 c =
-    listed_yes (NV12 ∷ YV12 ∷ []) c.args.d3d_format c.in_default.keys1
+    listed_yes (NV12 ∷ YV12 ∷ []) c.args.d3d_format c.in-842094169.is
 
 pub returns-in_default : goal.returns-in_default
 unfolding is_planar_yuv
 returns-in_default c =
-    listed_no (NV12 ∷ YV12 ∷ []) c.args.d3d_format c.in_default.rest.1
+    listed_no (NV12 ∷ YV12 ∷ []) c.args.d3d_format c.in_default.in_default-own.rest.1

@@ -9,4 +9,4 @@ use Rattle.formats.proofs.linear_row_pitch.Goals as goal
 pub returns : goal.returns
 unfolding linear_row_pitch raised
 returns c =
-    (refl, raised_is c.args.width 4 (omega arith))
+    record { is = refl; raised = raised_is c.args.width 4 (omega arith); }

@@ -1,0 +1,90 @@
+-- `channels::f32_to_nearest_code` meets its contract: a pattern counts as one from 0 to one, which stands for a significand over a power of two.
+use mathlib.Core.Path.{◌≡◌, sym, ap, ◌∙◌}
+use mathlib.Core.Logic.{inl, inr, ⊎_elim}
+use Prim.Native.Nat.{ℕ, suc, ◌+◌, ◌-◌, ◌*◌, ◌/◌, ◌%◌, ◌^◌, ◌≤◌, ◌<◌, min}
+use native.Mathlib.Nat.{le_of_lt, div-le_self, div-eq_of_lt, mul_comm, mul_assoc, mul-le-mul, mul-le-mul_right, min-eq_left, min-eq_right, pow-succ'}
+use native.Mathlib.Omega.{arith}
+use lib.Pow.{pow_pos, shr-shr}
+use lib.Ieee.{binary32, of_bits}
+use borrow.Author.Rules.{rules}
+use Rattle.words.specs.Tests.{split}
+use Rattle.channels.specs.Nearest.{rounded, rounded_none, rounded_whole, rounded_same, rounded_halved}
+use Rattle.channels.specs.Floats.{clamped, bottom_pos, as_zero, high_pattern, small_pattern, normal_pattern}
+use Rattle.channels.proofs.f32_to_nearest_code.Goals as goal
+
+product : (u max : ℕ) → max < 16777216 → (8388608 + u % 8388608) * max ≤ 281474976710656
+product u max h = let l : 8388608 + u % 8388608 ≤ 16777216 = omega arith in mul-le-mul l (le_of_lt h)
+
+abbrev shifted : (max u s : ℕ) → ℕ
+shifted max u s = ((8388608 + u % 8388608) * max / 4194304 / 2 ^ s + 1) / 2
+
+module _ (max : ℕ) where
+  abbrev code : ℕ → ℕ
+  code b = rounded (max * (clamped (of_bits binary32 b)).top) (clamped (of_bits binary32 b)).bottom
+
+  code_full : (b : ℕ) → 1065353216 ≤ b → b ≤ 2139095040 → code b ≡ max
+  code_full b h k =
+      let x = clamped (of_bits binary32 b) in
+      ap (λ n. rounded (max * n) x.bottom) (high_pattern b h k) ∙ rounded_whole max x.bottom (bottom_pos (of_bits binary32 b))
+
+  code_unit : (b : ℕ) → b ≤ 2139095040 → code (min b 1065353216) ≡ code b
+  code_unit b h = elim (split b 1065353216) [
+    | inl l ↦ ap code (min-eq_left (le_of_lt l))
+    | inr l ↦ ap code (min-eq_right l) ∙ code_full 1065353216 (omega arith) (omega arith) ∙ sym (code_full b l h)
+  ]
+
+  code_number : (b r : ℕ) → (b ≤ 2139095040 → r ≡ b) → (2139095040 < b → r ≡ 0) → code (min r 1065353216) ≡ code b
+  code_number b r number other = elim (split 2139095040 b) [
+    | inl l ↦ ap (λ z. code (min z 1065353216)) (other l) ∙ ap (λ x. rounded (max * x.top) x.bottom) (as_zero b l)
+    | inr l ↦ ap (λ z. code (min z 1065353216)) (number l) ∙ code_unit b l
+  ]
+
+  module _ (u : ℕ) (M : max < 16777216) (U : u ≤ 1065353216) where
+    code_small : u < 805306368 → shifted max u (min (127 - u / 8388608) 31) ≡ code u
+    code_small h =
+        let x = clamped (of_bits binary32 u) in
+        let none : (8388608 + u % 8388608) * max / 4194304 / 2 ^ 31 ≡ 0 = div-eq_of_lt (omega (arith, product u max M)) in
+        ap (shifted max u) (min-eq_right (omega arith))
+        ∙ ap (λ n. (n + 1) / 2) none
+        ∙ sym (rounded_none (max * x.top) x.bottom (omega (arith, small_pattern 96 u (omega arith) (omega arith) (omega arith), mul_comm x.top 16777216, mul-le-mul_right x.top (le_of_lt M))))
+
+    code_normal : 805306368 ≤ u → shifted max u (min (127 - u / 8388608) 31) ≡ code u
+    code_normal h =
+        let x = clamped (of_bits binary32 u) in
+        let n = (8388608 + u % 8388608) * max in
+        let s = 150 - u / 8388608 in
+        let k = 22 + (127 - u / 8388608) in
+        let e : s ≡ suc k = omega arith in
+        ap (shifted max u) (min-eq_left (omega arith))
+        ∙ ap (λ z. (z + 1) / 2) (shr-shr n 22 (127 - u / 8388608))
+        ∙ rounded_halved n (2 ^ k) (pow_pos k)
+        ∙ ap (rounded n) (sym (ap (λ z. 2 ^ z) e ∙ pow-succ' 2 k))
+        ∙ rounded_same n (2 ^ s) (max * x.top) x.bottom (pow_pos s) (bottom_pos (of_bits binary32 u))
+        (ap (λ z. z * x.bottom) (mul_comm (8388608 + u % 8388608) max) ∙ mul_assoc max (8388608 + u % 8388608) x.bottom
+        ∙ ap (λ z. max * z) (sym (normal_pattern u (omega arith) U)) ∙ sym (mul_assoc max x.top (2 ^ s)))
+
+    computed : shifted max u (min (127 - u / 8388608) 31) ≡ code u
+    computed = ⊎_elim code_small code_normal (split u 805306368)
+
+pub overflow_mul-scaled : goal.overflow_mul-scaled
+overflow_mul-scaled c =
+    omega (arith, product c.at_most-unit.result c.args.max c.requires)
+
+pub overflow_cast-scaled : goal.overflow_cast-scaled
+overflow_cast-scaled c =
+    omega (arith, product c.at_most-unit.result c.args.max c.requires)
+
+pub overflow_add-result : goal.overflow_add-result
+overflow_add-result c =
+    let u = c.at_most-unit.result in
+    omega (arith, product u c.args.max c.requires, div-le_self ((8388608 + u % 8388608) * c.args.max / 4194304) (2 ^ c.at_most.result))
+
+pub returns : goal.returns
+returns c =
+    let u = c.at_most-unit.result in
+    let max = c.args.max in
+    let number = c.number_bits.ensures in
+    ap (shifted max u) c.at_most.ensures
+    ∙ computed max u c.requires (omega arith)
+    ∙ ap (code max) c.at_most-unit.ensures
+    ∙ code_number max c.args.bits c.number_bits.result number.0 number.1
