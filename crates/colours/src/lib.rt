@@ -13,7 +13,7 @@ ghost use Rattle.colours.specs.Color.{byte_of, unorm_of, Channels};
 ghost use Rattle.colours.specs.LaneCodes.{nearest_code, Codes};
 
 // A D3DCOLOR's channels, and the codes of four lanes of eight bits.
-#[derive(Drop)]
+#[derive(Clone, Copy)]
 pub struct Lanes8 {
     pub r: u8,
     pub g: u8,
@@ -22,7 +22,7 @@ pub struct Lanes8 {
 }
 
 // The codes of four lanes of sixteen bits.
-#[derive(Drop)]
+#[derive(Clone, Copy)]
 pub struct Lanes16 {
     pub r: u16,
     pub g: u16,
@@ -31,7 +31,7 @@ pub struct Lanes16 {
 }
 
 // The codes of four lanes of thirty-two bits.
-#[derive(Drop)]
+#[derive(Clone, Copy)]
 pub struct Lanes32 {
     pub r: u32,
     pub g: u32,

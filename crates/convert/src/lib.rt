@@ -16,14 +16,14 @@ use formats::{
 };
 
 // Whether a format code has a fill.
-#[derive(Drop)]
+#[derive(Clone, Copy)]
 pub enum FillReply {
     Filled,
     NoFill,
 }
 
 // One texel's bytes: the first `len` of `bytes`, and zeros after them.
-#[derive(Drop)]
+#[derive(Clone, Copy)]
 pub struct FillPixel {
     pub bytes: [u8; 16],
     pub len: usize,

@@ -15,7 +15,7 @@ use yuv_sets::YuvSet;
 
 // One conversion: the shared extent and both origins in texels, both layouts in bytes. `depth` counts the slices, which lie a
 // slice pitch apart.
-#[derive(Drop)]
+#[derive(Clone, Copy)]
 pub struct ConvertRegion {
     pub src_x: u32,
     pub src_y: u32,
@@ -31,7 +31,7 @@ pub struct ConvertRegion {
 }
 
 // What a conversion answers; `reply_number` of specs/ has the numbers: 0 to 4 in this order, and 15.
-#[derive(Drop)]
+#[derive(Clone, Copy)]
 pub enum ConvertReply {
     Accepted,
     Unsupported,

@@ -21,7 +21,7 @@ use formats::{D3DFMT_D16, D3DFMT_D24S8, D3DFMT_D24X8};
 use words::{le16, le32, put16, put32};
 
 // The packed depth formats, whose codes survive binary32 storage.
-#[derive(Drop)]
+#[derive(Clone, Copy)]
 pub enum PackedDepth {
     D16,
     D24X8,
@@ -29,14 +29,14 @@ pub enum PackedDepth {
 }
 
 // What a format code stands for: a packed depth format, or none.
-#[derive(Drop)]
+#[derive(Clone, Copy)]
 pub enum PackedDepthCode {
     Depth(PackedDepth),
     Other,
 }
 
 // What a pixel stands for. Without a stencil that is 0.
-#[derive(Drop)]
+#[derive(Clone, Copy)]
 pub struct DepthStencil {
     pub depth: f32,
     pub stencil: u8,

@@ -15,7 +15,7 @@ ghost use Rattle.depth_texture.specs.Replies.{reply_number, refusal_of, Checked,
 use depth_pixels::{PackedDepth, PackedDepthCode};
 
 // Aligned rows of a depth plane and a stencil plane.
-#[derive(Drop)]
+#[derive(Clone, Copy)]
 pub struct PlaneLayout {
     pub width: usize,
     pub height: usize,
@@ -24,7 +24,7 @@ pub struct PlaneLayout {
 }
 
 // A layout that was asked for, or why there is none: refusals 6, 7 and 8 of document 01.
-#[derive(Drop)]
+#[derive(Clone, Copy)]
 pub enum PlaneLayoutAnswer {
     Layout(PlaneLayout),
     ZeroSize,
@@ -33,7 +33,7 @@ pub enum PlaneLayoutAnswer {
 }
 
 // How unpacking and packing reply: refusals 9 to 13 of document 01.
-#[derive(Drop)]
+#[derive(Clone, Copy)]
 pub enum DepthReply {
     Accepted,
     NotPackedDepth,
@@ -67,7 +67,7 @@ impl DepthReply {
 }
 
 // What the tests before a call found: the format of an accepted one, or the refusal.
-#[derive(Drop)]
+#[derive(Clone, Copy)]
 pub enum DepthCheck {
     Depth(PackedDepth),
     Refused(DepthReply),

@@ -14,7 +14,7 @@ use formats::D3DFMT_YV12;
 use planar_yuv::{PlanarYuvAnswer, PlanarYuvLayout};
 
 // What is left of a room.
-#[derive(Drop)]
+#[derive(Clone, Copy)]
 enum Room {
     Left(usize),
     Outside,

@@ -12,7 +12,7 @@ ghost use Rattle.planar_yuv.specs.Answers.{reply_of, from_pitch, from_width, Leg
 use formats::{D3DFMT_NV12, D3DFMT_YV12, MAX_TEXTURE_DIM};
 
 // Where the planes of a frame stand. Offsets take luma coordinates; the four texels of a 2 x 2 block share their chroma.
-#[derive(Drop)]
+#[derive(Clone, Copy)]
 pub struct PlanarYuvLayout {
     pub pitch: u32,
     pub luma_rows: u32,
@@ -20,7 +20,7 @@ pub struct PlanarYuvLayout {
     pub total_bytes: usize,
 }
 
-#[derive(Drop)]
+#[derive(Clone, Copy)]
 pub enum PlanarYuvAnswer {
     Layout(PlanarYuvLayout),
     // Refusal 14.

@@ -19,7 +19,7 @@ use formats::{D3DFMT_YUY2, D3DFMT_YV12};
 use planar_yuv::PlanarYuvLayout;
 use yuv_sets::YuvSet;
 
-#[derive(Drop)]
+#[derive(Clone, Copy)]
 pub struct Rgb {
     pub r: u8,
     pub g: u8,

@@ -39,6 +39,7 @@ absent (at low n k) = false
 
 absent_is : (l : Lane) → T (absent l) → l ≡ nowhere
 absent_is nowhere h = refl
+absent_is (at low width _) h = elim h [ ]
 
 rgb_plain : (f : ℕ) → is_convertible_rgb f ≡ true → (c : Channel) → is_colour c ≡ true → T (plain (lane_of f c))
 unfolding is_convertible_rgb lane_of parts_of

@@ -20,7 +20,7 @@ use formats::{
 };
 
 // A texel on its way between two formats: a byte for each channel.
-#[derive(Drop)]
+#[derive(Clone, Copy)]
 pub struct Texel {
     pub r: u8,
     pub g: u8,

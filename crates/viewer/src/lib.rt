@@ -56,7 +56,7 @@ fn unpack_and_pack(
 }
 
 // The replies to a conversion, an unpacking and a packing.
-#[derive(Drop)]
+#[derive(Clone, Copy)]
 struct Replies {
     pub converted: u32,
     pub unpacked: u32,

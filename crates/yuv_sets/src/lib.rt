@@ -7,7 +7,7 @@ ghost use Rattle.yuv_sets.specs.Sets as sets;
 ghost use Rattle.yuv_sets.specs.Sets.{is_gain, is_legal, RoundedFrom};
 
 // The numbers of a conversion: gains and offset in 65536ths, and the centre of the chroma in halves.
-#[derive(Drop)]
+#[derive(Clone, Copy)]
 pub struct YuvSet {
     pub luma_gain: u32,
     pub luma_offset: u32,

@@ -1,0 +1,15 @@
+-- `texels::decode_l16` meets its contract: each shift and mask is the lane of the table, and what it lacks is full. Assumes nothing.
+use mathlib.Core.Path.{refl, ◌∙◌}
+use Prim.Native.Nat.{◌*◌, ◌%◌}
+use Rattle.formats.specs.Table.{lane_of, parts_of}
+use Rattle.channels.specs.Nearest.{rounded}
+use Rattle.texels.specs.Texels.{decoded_of, colour_of, missing_colour}
+use Rattle.texels.proofs.Arms.{unshifted, four_bytes}
+use borrow.Author.Rules.{rules}
+use Rattle.texels.proofs.decode_l16.Goals as goal
+
+pub returns : goal.returns
+unfolding colour_of decoded_of lane_of missing_colour parts_of
+returns c =
+    let l = c.nearest16-l.ensures ∙ unshifted (λ k. rounded (255 * (k % 65536)) 65535) c.args.v in
+    four_bytes l l l refl
