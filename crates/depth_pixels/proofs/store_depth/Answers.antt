@@ -1,0 +1,19 @@
+-- `depth_pixels::store_depth` meets its contract: the part that was lent comes back with four bytes at its front. Assumes nothing.
+use mathlib.Core.Path.{refl, ap, ◌∙◌}
+use native.Mathlib.Omega.{arith}
+use borrow.Rule.Slice.PartMut.{put_mid}
+use Prim.Native.Nat.{◌-◌}
+use lib.ListN.{length}
+use lib.Ieee.{binary32, to_bits}
+use Rattle.words.specs.Little.{bytes, length_bytes}
+use Rattle.words.specs.Slices.{part_back}
+use borrow.Author.Rules.{rules}
+use Rattle.depth_pixels.proofs.store_depth.Goals as goal
+
+pub returns : goal.returns
+returns c =
+    let g = c.args in
+    let l = g.plane.now in
+    let b = bytes 4 (to_bits binary32 g.depth) in
+    ap (λ w. put_mid g.at (length l - g.at) l w) c.put32.ensures
+    ∙ part_back l g.at (length l - g.at) b refl (omega (arith, c.requires.0, length_bytes 4 (to_bits binary32 g.depth)))

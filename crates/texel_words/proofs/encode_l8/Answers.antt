@@ -1,0 +1,12 @@
+-- `texel_words::encode_l8` meets its contract: the word of the table, whose one lane is a byte. Assumes nothing.
+use native.Mathlib.Omega.{arith}
+use Rattle.formats.specs.Table.{parts_of}
+use Rattle.channels.specs.Expansion.{truncated}
+use Rattle.texels.specs.Texels.{encoded_of}
+use borrow.Author.Rules.{rules}
+use Rattle.texel_words.proofs.encode_l8.Goals as goal
+
+pub returns : goal.returns
+unfolding encoded_of parts_of truncated
+returns c =
+    omega (arith, c.luminance.ensures)
