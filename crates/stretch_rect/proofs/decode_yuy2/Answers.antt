@@ -1,0 +1,15 @@
+-- `stretch_rect::decode_yuy2` meets its contract: the bytes stand at their places. Assumes nothing.
+use mathlib.Core.Path.{ap, ◌∙◌}
+use lib.ListN.{get_or}
+use borrow.Author.Rules.{rules}
+use Rattle.stretch_rect.specs.Yuv.{rgb_of}
+use Rattle.stretch_rect.specs.Samples.{packed_rgb}
+use Rattle.stretch_rect.proofs.Places.{pick_at}
+use Rattle.stretch_rect.proofs.decode_yuy2.Goals as goal
+
+pub returns : goal.returns
+unfolding packed_rgb
+returns c =
+    let s = c.args in
+    c.convert_with_set.ensures.is
+    ∙ ap (λ y. rgb_of s.numbers y (get_or s.macropixel.now 1 0) (get_or s.macropixel.now 3 0)) (c.luma_of-luma.ensures ∙ pick_at s.odd s.macropixel.now 2 0)
