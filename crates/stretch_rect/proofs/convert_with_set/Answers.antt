@@ -126,7 +126,7 @@ returns c =
     let u_green : Part c.scaled_chroma-gu.result (chroma_part set.chroma_centre set.u_to_green c.args.cb) = record { is = c.scaled_chroma-gu.ensures; range = chroma_range _ _ _ (omega arith) c.requires.centre_most c.requires.u_to_green } in
     let v_green : Part c.scaled_chroma-gv.result (chroma_part set.chroma_centre set.v_to_green c.args.cr) = record { is = c.scaled_chroma-gv.ensures; range = chroma_range _ _ _ (omega arith) c.requires.centre_most c.requires.v_to_green } in
     let u_blue : Part c.scaled_chroma-bu.result (chroma_part set.chroma_centre set.u_to_blue c.args.cb) = record { is = c.scaled_chroma-bu.ensures; range = chroma_range _ _ _ (omega arith) c.requires.centre_most c.requires.u_to_blue } in
-    let both = near_too (c c).args.numbers (c c).args.luma (c c).args.cb (c c).args.cr
+    let both = near_too c.args.numbers c.args.luma c.args.cb c.args.cr
     (same_rgb_lem
     (c.to8-r.ensures ∙ ap byte (add_is luma v_red))
     (c.to8-g.ensures ∙ ap byte (sub2_is luma u_green v_green))
