@@ -72,9 +72,9 @@ fields_code s e t h =
     code_by_value (of_fields binary32 s e t) s u (2 ^ 149) (fields_value s e t h) (pow_pos 149)
     ∙ magnitude_same (u * 2 ^ 24) (2 ^ 149) u (2 ^ 125) (pow_pos 149) (pow_pos 125) (mul_assoc u (2 ^ 24) (2 ^ 125))
 
-of_fields : (b : ℕ) → of_bits binary32 b ≡ of_fields binary32 (leb 2147483648 b) (b % 2147483648 / 8388608) (b % 2147483648 % 8388608)
+of_fields_lem : (b : ℕ) → of_bits binary32 b ≡ of_fields binary32 (leb 2147483648 b) (b % 2147483648 / 8388608) (b % 2147483648 % 8388608)
 unfolding of_bits
-of_fields b = ap (of_fields binary32 (leb 2147483648 b) (b % 2147483648 / 8388608)) (low b)
+of_fields_lem b = ap (of_fields binary32 (leb 2147483648 b) (b % 2147483648 / 8388608)) (low b)
   where
     low : (b : ℕ) → b % 8388608 ≡ b % 2147483648 % 8388608
     low b = omega arith
@@ -83,7 +83,7 @@ of_fields b = ap (of_fields binary32 (leb 2147483648 b) (b % 2147483648 / 838860
 pub finite_code : (b : ℕ) → b % 2147483648 < 0x7f800000 → code_of (of_bits binary32 b) ≡ magnitude_code (float_units (b % 2147483648)) (2 ^ 125)
 unfolding units_of
 finite_code b h =
-    ap code_of (of_fields b) ∙ fields_code (leb 2147483648 b) (b % 2147483648 / 8388608) (b % 2147483648 % 8388608) (field (b % 2147483648) h)
+    ap code_of (of_fields_lem b) ∙ fields_code (leb 2147483648 b) (b % 2147483648 / 8388608) (b % 2147483648 % 8388608) (field (b % 2147483648) h)
   where
     field : (a : ℕ) → a < 0x7f800000 → a / 8388608 < 255
     field a h = omega arith
@@ -126,7 +126,7 @@ half_of_it = refl
 pub overflow_code : (b : ℕ) → 0x477ff000 ≤ b % 2147483648 → b % 2147483648 ≤ 0x7f800000 → code_of (of_bits binary32 b) ≡ 0x7c00
 overflow_code b h l = elim (eq-or-lt_of_le l) [
   | inl e ↦
-      ap code_of (of_fields b)
+      ap code_of (of_fields_lem b)
       ∙ ap₂ (λ (x y : ℕ). code_of (of_fields binary32 (leb 2147483648 b) x y)) (ap (λ (z : ℕ). z / 8388608) e) (ap (λ (z : ℕ). z % 8388608) e)
       ∙ infinity_code (leb 2147483648 b)
   | inr g ↦

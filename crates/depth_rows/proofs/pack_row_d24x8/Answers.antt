@@ -1,0 +1,24 @@
+-- `depth_rows::pack_row_d24x8` meets its contract: column by column. Assumes nothing.
+use mathlib.Core.List.{[]}
+use Prim.Native.Nat.{◌+◌, ◌-◌, ◌*◌, ◌≤◌}
+use native.Mathlib.Omega.{arith}
+use lib.ListN.{length, length-take, length-drop}
+use borrow.Author.Rules.{rules}
+use Rattle.formats.specs.Codes as codes
+use Rattle.depth_pixels.specs.PackedFormats.{size_d24x8, stencil_d24x8}
+use Rattle.depth_pixels.specs.PixelBytes.{packed_bytes}
+use Rattle.depth_rows.proofs.Rows.{Turn, first_turn, next_turn, last_turn, column_in, no_stencil_read, pixel_stored}
+use Rattle.depth_rows.proofs.pack_row_d24x8.Goals as goal
+
+pub loop-x-preserved : goal.loop-x-preserved
+loop-x-preserved c =
+    let dst_in : c.args.to + c.loop-x.x * 4 + 4 ≤ length c.loop-x.packed = column_in c.loop-x.invariant c.loop-x-test.true c.requires.0 in
+    let g = c.args in
+    let x = c.loop-x.x in
+    let r = c.load_depth in
+    next_turn c.loop-x.invariant c.loop-x-test.true
+    (pixel_stored codes.D24X8 4 g.depth.now [] c.loop-x.packed (g.from + x * 4) 0 (g.to + x * 4) r.result 0 size_d24x8 dst_in
+    r.ensures.same (no_stencil_read codes.D24X8 [] 0 stencil_d24x8) c.encode_d24x8.ensures)
+
+pub loop-x-init : goal.loop-x-init
+loop-x-init c = first_turn
