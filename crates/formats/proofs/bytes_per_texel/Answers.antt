@@ -4,10 +4,8 @@ use mathlib.Core.Bool.{Bool}
 use mathlib.Core.List.{List, [], ◌∷◌}
 use Prim.Native.Nat.{ℕ, ◌/◌}
 use native.Mathlib.Omega.{arith}
-use native.Mathlib.Nat.{lt_trans}
-use lib.Dec.{eqb, ltb, eqb→eq, ltb→lt, lit<}
+use lib.Dec.{eqb, ltb, eqb→eq}
 use lib.ListN.{get_or}
-use borrow.Author.Rules.{rules}
 use Rattle.words.specs.Computed.{entry_at}
 use Rattle.formats.specs.Lanes.{bits}
 use Rattle.formats.specs.Table.{bytes_of, parts_of, not_listed_above}

@@ -3,7 +3,6 @@ use borrow.Author.Tests.{ne_eqb}
 use Rattle.formats.specs.Codes.{A32B32G32R32F}
 use Rattle.formats.specs.Classes.{code_sources, is_code_source, is_argb_source}
 use Rattle.formats.proofs.Arms.{here, later}
-use borrow.Author.Rules.{rules}
 use Rattle.formats.proofs.is_argb_source.Goals as goal
 
 pub returns-then-d3d_format-eq-D3DFMT_A32B32G32R32F : goal.returns-then-d3d_format-eq-D3DFMT_A32B32G32R32F

@@ -2,7 +2,6 @@
 use mathlib.Core.Path.{sym, ap, ◌∙◌}
 use mathlib.Core.Bool.{◌||◌}
 use Rattle.formats.specs.Classes.{is_argb_source, is_lane_source}
-use borrow.Author.Rules.{rules}
 use Rattle.formats.proofs.is_lane_source.Goals as goal
 
 pub returns-then-is_convertible_rgb : goal.returns-then-is_convertible_rgb

@@ -2,11 +2,10 @@
 use mathlib.Core.Path.{refl}
 use native.Mathlib.Omega.{arith}
 use Rattle.words.specs.Multiples.{raised, raised_is}
-use borrow.Author.Rules.{rules}
 use Rattle.formats.specs.Classes.{linear_row_pitch}
 use Rattle.formats.proofs.linear_row_pitch.Goals as goal
 
 pub returns : goal.returns
 unfolding linear_row_pitch raised
 returns c =
-    record { is = refl; raised = raised_is c.args.width 4 (omega arith); }
+    record { is = refl; raised = raised_is c.args.width 4 (omega arith) }

@@ -1,0 +1,20 @@
+-- `colours::pack_a2_rgb10` meets its contract: shifts and ors are sums, by `four` at the widths 2, 10, 10, 10. Assumes nothing.
+use native.Mathlib.Omega.{arith}
+use Rattle.colours.proofs.Lanes.{four, nearest_bits}
+use borrow.Author.Rules.{rules}
+use Rattle.colours.proofs.pack_a2_rgb10.Goals as goal
+
+pub returns : goal.returns
+returns c =
+    let a = c.unorm8_to_unorm2 in
+    let h = c.unorm8_to_unorm10 in
+    let m = c.unorm8_to_unorm10-2 in
+    let l = c.unorm8_to_unorm10-3 in
+    omega (
+      arith,
+      four 32 2 10 10 10 a.result h.result m.result l.result (omega arith)
+          (omega (arith, nearest_bits 3 c.args.alpha a.result (search rules) a.ensures.is))
+          (omega (arith, nearest_bits 1023 c.args.high h.result (search rules) h.ensures.is))
+          (omega (arith, nearest_bits 1023 c.args.middle m.result (search rules) m.ensures.is))
+          (omega (arith, nearest_bits 1023 c.args.low l.result (search rules) l.ensures.is)),
+    )
