@@ -158,8 +158,8 @@ loop-done-preserved c =
     let read = c.read_texels-from in
     let wrote = c.write_texels-to in
     let texels = block_texels bt601 g.src.now (length g.dst.now) g.src_format g.dst_format g.region g.z g.row c.requires.0 c.requires.1 l.done c.next_block-n.result l.from l.to l.invariant.0 sized.0 sized.2 read.new.block read.result read.ensures in (
-      block_carried bt601 g.src.now (length g.dst.now) g.src_format g.dst_format g.region g.z g.row c.requires.0 c.requires.1 l.done c.next_block-n.result l.from l.to l.invariant.0 sized.0 sized.2 read.new.block read.result read.ensures (word_of read.new.block) l.dst wrote.new.dst.1.0 wrote.result wrote.ensures,
-      block_rows bt601 g.src.now (length g.dst.now) g.src_format g.dst_format g.region g.z g.row c.requires.0 c.requires.1 l.done c.next_block-n.result l.from l.to l.invariant.0 sized.0 sized.2 (word_of read.new.block) g.dst.now l.dst wrote.new.dst.1.0 wrote.result wrote.ensures texels l.invariant.1,
+      block_carried bt601 g.src.now (length g.dst.now) g.src_format g.dst_format g.region g.z g.row c.requires.0 c.requires.1 l.done c.next_block-n.result l.from l.to l.invariant.0 sized.0 sized.2 read.new.block read.result read.ensures (word_of read.new.block) l.dst wrote.new.dst wrote.result wrote.ensures,
+      block_rows bt601 g.src.now (length g.dst.now) g.src_format g.dst_format g.region g.z g.row c.requires.0 c.requires.1 l.done c.next_block-n.result l.from l.to l.invariant.0 sized.0 sized.2 (word_of read.new.block) g.dst.now l.dst wrote.new.dst wrote.result wrote.ensures texels l.invariant.1,
       wrote.auto.dst ∙ l.invariant.2,
       read.auto.block ∙ l.invariant.3,
       sized.2,
