@@ -24,7 +24,7 @@
 //! lent.
 //!
 //! The build links the archive from the folder in `WENTUQIS_LIB_DIR`, else from `target/staticlib`
-//! of the repository, where `rt staticlib wentuqis` writes it. It is made for x86-64 Linux.
+//! of the repository, where `make library` writes it. It is made for x86-64 Linux.
 //!
 //! ```
 //! use wentuqis::format::{D3DFMT_A8R8G8B8, D3DFMT_YUY2};
