@@ -16,18 +16,13 @@ help:
 	@echo 'make bench     nanoseconds a texel beside the original, to docs/BENCHMARKS.md'
 	@echo 'make fuzz      damaged calls under valgrind for ten minutes (SECONDS_OF_FUZZ=N: for N seconds)'
 	@echo 'make library   prove and build target/staticlib/libwentuqis.a'
-	@echo 'make fmt       lay out every file of Rattle (rt fmt)'
+	@echo 'make fmt       lay out every file of Rattle (rt fmt in each crate)'
 	@echo 'make vectors   record the answers of the original, oracle/stills.rs, sets.rs and float16.c anew in crates/replay/data'
 	@echo 'make clean     remove all that these targets make'
 
-# A line for each crate as it is proved; all that the prover says is in out/library.log.
 library:
-	@command -v rt >/dev/null || { echo 'library: rt, the command of the Rattle kit, is not on PATH'; exit 1; }
-	@mkdir -p out
 	@echo 'Proving and building the library; the first time takes some minutes. A line for each crate:'
-	@rt staticlib wentuqis 2>&1 | tee out/library.log | while IFS= read -r line; do \
-	    if [[ $$line == 'rt: '* ]]; then echo "  $${line#rt: }"; fi; \
-	done || { echo 'library: not proved; out/library.log has what the prover said'; exit 1; }
+	@bash tools/library.sh
 
 demo: library
 	@command -v cargo >/dev/null || { echo 'demo: cargo is not on PATH'; exit 1; }
@@ -47,7 +42,7 @@ fuzz: library
 	@bash oracle/build.sh fuzz && valgrind -q --error-exitcode=9 oracle/build/fuzz $(SECONDS_OF_FUZZ)
 
 fmt:
-	@rt fmt
+	@for folder in crates/*/; do (cd "$$folder" && rt fmt); done
 
 vectors:
 	@bash oracle/build.sh record

@@ -199,7 +199,7 @@ if [[ -z $missing ]]; then
             --check-cfg 'cfg(port)' "${port[@]}" -C overflow-checks=on "${by_compiler[@]}"
     done
 elif asked bench compare fuzz; then
-    missing="$archive $missing (rt staticlib wentuqis makes it; WENTUQIS_LIB_DIR names another folder)"
+    missing="$archive $missing (make library makes it; WENTUQIS_LIB_DIR names another folder)"
     if ((${#named[@]} > 0)) && asked compare fuzz; then fail "$missing"; fi
     echo "oracle: $missing: compare and fuzz are not built, and bench is without the port" >&2
 fi

@@ -25,7 +25,7 @@ fn main() {
     println!("cargo::rerun-if-changed={}", archive.display());
     if !archive.is_file() {
         println!(
-            "cargo::error=there is no {}: make it by `rt staticlib wentuqis` in the repository, or set WENTUQIS_LIB_DIR to its folder",
+            "cargo::error=there is no {}: make it by `make library` in the repository, or set WENTUQIS_LIB_DIR to its folder",
             archive.display()
         );
         return;

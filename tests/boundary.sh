@@ -10,7 +10,7 @@ cd "$(dirname "${BASH_SOURCE[0]}")/.."
 
 archive=$folder/libwentuqis.a
 if [[ ! -f $archive ]]; then
-    echo "boundary: there is no $archive: make it by 'rt staticlib wentuqis'"
+    echo "boundary: there is no $archive: make it by 'make library'"
     exit 1
 fi
 

@@ -28,7 +28,7 @@ fn refused(case: &[u8]) -> bool
 
 // A parameter of 64 bits.
 fn size(case: &[u8], place: usize) -> usize
-    requires in_bounds { 512 ≤ length case.now }
+    requires case_room { 512 ≤ length case.now }
     requires place_bound { place < 15 }
 {
     words::le64(&case[8 + place * 8..]) as usize
@@ -36,7 +36,7 @@ fn size(case: &[u8], place: usize) -> usize
 
 // A parameter of 32 bits.
 fn number(case: &[u8], place: usize) -> u32
-    requires in_bounds { 512 ≤ length case.now }
+    requires case_room { 512 ≤ length case.now }
     requires place_bound { place < 15 }
 {
     words::le32(&case[8 + place * 8..])
@@ -44,7 +44,7 @@ fn number(case: &[u8], place: usize) -> u32
 
 // The length of what is lent of an area.
 fn lent(case: &[u8], place: usize) -> usize
-    requires in_bounds { 512 ≤ length case.now }
+    requires case_room { 512 ≤ length case.now }
     requires place_bound { place < 15 }
     ensures { result ≤ 72 }
 {
@@ -82,9 +82,9 @@ fn same(area: &[u8; 72], at: &[u8]) -> bool
 
 // The reply to the conversion with the parameters of a record.
 fn convert_reply(case: &[u8], src: &[u8], dst: &mut [u8]) -> u32
-    requires in_bounds { 512 ≤ length case.now }
-    requires in_bounds_2 { 72 ≤ length src.now }
-    requires in_bounds_3 { 72 ≤ length dst.old }
+    requires case_room { 512 ≤ length case.now }
+    requires src_room { 72 ≤ length src.now }
+    requires dst_room { 72 ≤ length dst.old }
 {
     let src_length = lent(case, 0);
     let dst_length = lent(case, 1);
@@ -119,7 +119,7 @@ fn convert_region(case: &[u8]) -> bool
 
 // A number of the set that a record of a conversion has in its third area.
 fn set_number(case: &[u8], place: usize) -> u32
-    requires in_bounds { 512 ≤ length case.now }
+    requires case_room { 512 ≤ length case.now }
     requires place_bound { place < 7 }
 {
     words::le32(&case[272 + place * 4..])
@@ -141,9 +141,9 @@ fn set_of(case: &[u8]) -> YuvSet
 
 // The reply to the conversion with the parameters of a record and a set.
 fn convert_reply_with_set(case: &[u8], numbers: YuvSet, src: &[u8], dst: &mut [u8]) -> u32
-    requires in_bounds { 512 ≤ length case.now }
-    requires in_bounds_2 { 72 ≤ length src.now }
-    requires in_bounds_3 { 72 ≤ length dst.old }
+    requires case_room { 512 ≤ length case.now }
+    requires src_room { 72 ≤ length src.now }
+    requires dst_room { 72 ≤ length dst.old }
 {
     let src_length = lent(case, 0);
     let dst_length = lent(case, 1);
@@ -185,10 +185,10 @@ fn convert_region_with_set(case: &[u8]) -> bool
 
 // The reply to the unpacking with the parameters of a record.
 fn unpack_reply(case: &[u8], packed: &[u8], depth: &mut [u8], stencil: &mut [u8]) -> u32
-    requires in_bounds { 512 ≤ length case.now }
-    requires in_bounds_2 { 72 ≤ length packed.now }
-    requires in_bounds_3 { 72 ≤ length depth.old }
-    requires in_bounds_4 { 72 ≤ length stencil.old }
+    requires case_room { 512 ≤ length case.now }
+    requires packed_room { 72 ≤ length packed.now }
+    requires depth_room { 72 ≤ length depth.old }
+    requires stencil_room { 72 ≤ length stencil.old }
 {
     let packed_length = lent(case, 0);
     let depth_length = lent(case, 1);
@@ -221,10 +221,10 @@ fn unpack(case: &[u8]) -> bool
 
 // The reply to the packing with the parameters of a record.
 fn pack_reply(case: &[u8], packed: &mut [u8], depth: &[u8], stencil: &[u8]) -> u32
-    requires in_bounds { 512 ≤ length case.now }
-    requires in_bounds_2 { 72 ≤ length packed.old }
-    requires in_bounds_3 { 72 ≤ length depth.now }
-    requires in_bounds_4 { 72 ≤ length stencil.now }
+    requires case_room { 512 ≤ length case.now }
+    requires packed_room { 72 ≤ length packed.old }
+    requires depth_room { 72 ≤ length depth.now }
+    requires stencil_room { 72 ≤ length stencil.now }
 {
     let packed_length = lent(case, 0);
     let depth_length = lent(case, 1);
@@ -254,9 +254,9 @@ fn pack(case: &[u8]) -> bool
 }
 
 fn splat(case: &[u8], pixel: &[u8], dst: &mut [u8])
-    requires in_bounds { 512 ≤ length case.now }
-    requires in_bounds_2 { 72 ≤ length pixel.now }
-    requires in_bounds_3 { 72 ≤ length dst.old }
+    requires case_room { 512 ≤ length case.now }
+    requires pixel_room { 72 ≤ length pixel.now }
+    requires dst_room { 72 ≤ length dst.old }
 {
     let pixel_length = lent(case, 0);
     let dst_length = lent(case, 1);

@@ -9,9 +9,29 @@
 mod buffers;
 mod values;
 
-ghost use Rattle.std.specs.Prelude.{◌≤◌, ◌<◌, length};
+ghost use Rattle.std.specs.Prelude.{◌≤◌, ◌<◌, length, IfOk};
 
-use libc::STDOUT_FILENO;
+use std::io::Read;
+use std::rt::Files;
+use std::{fs, io};
+
+// The public calls: their numbers and names.
+const PUBLIC: [(u32, &str); 14] = [
+    (16, "can_convert"),
+    (17, "can_convert_update"),
+    (18, "yuv_to_rgb8"),
+    (19, "planar_yuv_layout"),
+    (20, "planar_yuv_layout_from_pitch"),
+    (21, "plane_layout"),
+    (22, "d3dcolor_fill_pixel_bytes"),
+    (23, "f32_to_f16_bits"),
+    (24, "d3dcolor_to_rgba_f32"),
+    (25, "convert_region"),
+    (26, "unpack"),
+    (27, "pack"),
+    (28, "splat_pixel_pattern"),
+    (30, "convert_region_with_set"),
+];
 
 // What this library computes for a recorded call; no byte, code or pitch for a call that is not one of the list.
 fn answer(call: u32, a: u32, b: u32) -> u32 {
@@ -85,8 +105,8 @@ fn vector_agrees(call: u32, case: &[u8]) -> bool
 
 // Whether the record holds; its length tells the file.
 fn agrees(call: u32, case: &[u8], size: usize) -> bool
-    requires in_bounds { 16 ≤ length case.now }
-    requires size_in_bounds { size ≤ length case.now }
+    requires case_room { 16 ≤ length case.now }
+    requires size_room { size ≤ length case.now }
 {
     match size {
         64 => values::agrees(call, case),
@@ -102,8 +122,8 @@ fn replay_case(
     refused: &mut [u64; 32],
     differ: &mut [u64; 32],
 )
-    requires in_bounds { 16 ≤ length case.now }
-    requires size_in_bounds { size ≤ length case.now }
+    requires case_room { 16 ≤ length case.now }
+    requires size_room { size ≤ length case.now }
 {
     let call = words::le32(case);
     count(cases, call);
@@ -132,112 +152,119 @@ fn replay_records(
     }
 }
 
+// Reads until the buffer is full or the file ends, and says how many bytes at its start were read.
+fn read_full(file: &mut impl Read, buf: &mut [u8]) -> io::Result<usize>
+    ensures { IfOk result (λ n. n ≤ length buf.new) }
+{
+    let mut done = 0;
+    while done < buf.len() {
+        let n = file.read(&mut buf[done..])?;
+        if n == 0 {
+            break;
+        }
+        done += n;
+    }
+    Ok(done)
+}
+
 // The file is read in whole records; one that is longer than 64 MB is not read to its end.
 fn replay_file(
-    fd: i32,
+    file: &mut impl Read,
     size: usize,
     cases: &mut [u64; 32],
     refused: &mut [u64; 32],
     differ: &mut [u64; 32],
-)
+) -> io::Result<()>
     requires { 16 ≤ size }
 {
-    let mut buf = io::large_buffer();
+    let mut buf = [0u8; 65536];
     let mut turns: usize = 0;
     while turns < 1024 {
-        let n = io::read_full(fd, &mut buf);
+        let n = read_full(file, &mut buf)?;
         if n == 0 {
-            return;
+            break;
         }
         replay_records(&buf[..n], size, cases, refused, differ);
         turns += 1;
     }
+    Ok(())
 }
 
-// Replays a file of records of this size, if it is there.
+// Replays a file of records of this size, if it is there; else standard error says why not.
 fn replay(
-    path: &[u8],
+    rt: &(impl Files + Eprint),
+    path: &str,
     size: usize,
     cases: &mut [u64; 32],
     refused: &mut [u64; 32],
     differ: &mut [u64; 32],
-)
+) -> io::Result<()>
     requires { 16 ≤ size }
 {
-    let fd = os::open_read(path);
-    if fd < 0 {
-        os::fail(path);
-        return;
+    match fs::open(rt, path) {
+        Ok(mut file) => replay_file(&mut file, size, cases, refused, differ),
+        Err(error) => eprintln!(rt; "{path}: {error}"),
     }
-    replay_file(fd, size, cases, refused, differ);
-    libc::close(fd);
 }
 
-fn print_call(name: &[u8], cases: u64, differ: u64) {
-    io::write_all(STDOUT_FILENO, name);
-    io::print_decimal(STDOUT_FILENO, cases);
-    io::write_all(STDOUT_FILENO, b" cases, ");
-    io::print_decimal(STDOUT_FILENO, differ);
-    io::write_all(STDOUT_FILENO, b" differ\n");
+fn print_call(rt: &impl Print, name: &str, cases: u64, differ: u64) -> io::Result<()> {
+    println!(rt; "{name:<19} {cases} cases, {differ} differ")
 }
 
 // A public call by its number, with how many of its cases are refused.
-fn print_public(name: &[u8], call: u32, cases: [u64; 32], refused: [u64; 32], differ: [u64; 32]) {
+fn print_public(
+    rt: &impl Print,
+    call: u32,
+    name: &str,
+    all_cases: [u64; 32],
+    all_refused: [u64; 32],
+    all_differ: [u64; 32],
+) -> io::Result<()> {
     let place = place_of(call);
-    io::write_all(STDOUT_FILENO, name);
-    io::print_decimal(STDOUT_FILENO, cases[place]);
-    io::write_all(STDOUT_FILENO, b" cases, ");
-    io::print_decimal(STDOUT_FILENO, differ[place]);
-    io::write_all(STDOUT_FILENO, b" differ; ");
-    io::print_decimal(STDOUT_FILENO, refused[place]);
-    io::write_all(STDOUT_FILENO, b" refused\n");
+    let (cases, refused, differ) = (all_cases[place], all_refused[place], all_differ[place]);
+    println!(rt; "{name:<28} {cases} cases, {differ} differ; {refused} refused")
 }
 
-fn print_counts(cases: [u64; 32], differ: [u64; 32]) {
-    print_call(b"expand4             ", cases[1], differ[1]);
-    print_call(b"expand5             ", cases[2], differ[2]);
-    print_call(b"expand6             ", cases[3], differ[3]);
-    print_call(b"expand1             ", cases[4], differ[4]);
-    print_call(b"truncate4           ", cases[5], differ[5]);
-    print_call(b"truncate5           ", cases[6], differ[6]);
-    print_call(b"truncate6           ", cases[7], differ[7]);
-    print_call(b"truncate1           ", cases[8], differ[8]);
-    print_call(b"luminance           ", cases[9], differ[9]);
-    print_call(b"nearest code        ", cases[10], differ[10]);
-    print_call(b"unorm8_to_unorm16   ", cases[11], differ[11]);
-    print_call(b"unorm16_to_unorm8   ", cases[12], differ[12]);
-    print_call(b"f32_to_unorm8       ", cases[13], differ[13]);
-    print_call(b"linear_row_pitch    ", cases[14], differ[14]);
-    print_call(b"bytes_per_texel     ", cases[15], differ[15]);
-    print_call(b"nearest byte        ", cases[29], differ[29]);
+fn print_counts(rt: &impl Print, cases: [u64; 32], differ: [u64; 32]) -> io::Result<()> {
+    print_call(rt, "expand4", cases[1], differ[1])?;
+    print_call(rt, "expand5", cases[2], differ[2])?;
+    print_call(rt, "expand6", cases[3], differ[3])?;
+    print_call(rt, "expand1", cases[4], differ[4])?;
+    print_call(rt, "truncate4", cases[5], differ[5])?;
+    print_call(rt, "truncate5", cases[6], differ[6])?;
+    print_call(rt, "truncate6", cases[7], differ[7])?;
+    print_call(rt, "truncate1", cases[8], differ[8])?;
+    print_call(rt, "luminance", cases[9], differ[9])?;
+    print_call(rt, "nearest code", cases[10], differ[10])?;
+    print_call(rt, "unorm8_to_unorm16", cases[11], differ[11])?;
+    print_call(rt, "unorm16_to_unorm8", cases[12], differ[12])?;
+    print_call(rt, "f32_to_unorm8", cases[13], differ[13])?;
+    print_call(rt, "linear_row_pitch", cases[14], differ[14])?;
+    print_call(rt, "bytes_per_texel", cases[15], differ[15])?;
+    print_call(rt, "nearest byte", cases[29], differ[29])
 }
 
-fn print_public_counts(cases: [u64; 32], refused: [u64; 32], differ: [u64; 32]) {
-    print_public(b"can_convert                  ", 16, cases, refused, differ);
-    print_public(b"can_convert_update           ", 17, cases, refused, differ);
-    print_public(b"yuv_to_rgb8                  ", 18, cases, refused, differ);
-    print_public(b"planar_yuv_layout            ", 19, cases, refused, differ);
-    print_public(b"planar_yuv_layout_from_pitch ", 20, cases, refused, differ);
-    print_public(b"plane_layout                 ", 21, cases, refused, differ);
-    print_public(b"d3dcolor_fill_pixel_bytes    ", 22, cases, refused, differ);
-    print_public(b"f32_to_f16_bits              ", 23, cases, refused, differ);
-    print_public(b"d3dcolor_to_rgba_f32         ", 24, cases, refused, differ);
-    print_public(b"convert_region               ", 25, cases, refused, differ);
-    print_public(b"unpack                       ", 26, cases, refused, differ);
-    print_public(b"pack                         ", 27, cases, refused, differ);
-    print_public(b"splat_pixel_pattern          ", 28, cases, refused, differ);
-    print_public(b"convert_region_with_set      ", 30, cases, refused, differ);
+fn print_public_counts(
+    rt: &impl Print,
+    cases: [u64; 32],
+    refused: [u64; 32],
+    differ: [u64; 32],
+) -> io::Result<()> {
+    for (call, name) in PUBLIC {
+        print_public(rt, call, name, cases, refused, differ)?;
+    }
+    Ok(())
 }
 
-fn main() {
+fn main(rt: HostRuntime) -> io::Result<()> {
     let mut cases = [0u64; 32];
     let mut refused = [0u64; 32];
     let mut differ = [0u64; 32];
-    replay(b"vectors", 16, &mut cases, &mut refused, &mut differ);
-    replay(b"values", 64, &mut cases, &mut refused, &mut differ);
-    replay(b"buffers", 512, &mut cases, &mut refused, &mut differ);
-    replay(b"sets", 512, &mut cases, &mut refused, &mut differ);
-    print_counts(cases, differ);
-    print_public_counts(cases, refused, differ);
-    print_call(b"other calls         ", cases[0], differ[0]);
+    replay(&rt, "vectors", 16, &mut cases, &mut refused, &mut differ)?;
+    replay(&rt, "values", 64, &mut cases, &mut refused, &mut differ)?;
+    replay(&rt, "buffers", 512, &mut cases, &mut refused, &mut differ)?;
+    replay(&rt, "sets", 512, &mut cases, &mut refused, &mut differ)?;
+    print_counts(&rt, cases, differ)?;
+    print_public_counts(&rt, cases, refused, differ)?;
+    print_call(&rt, "other calls", cases[0], differ[0])
 }

@@ -128,7 +128,7 @@ fn d3dcolor_fill_pixel_bytes(case: &[u8]) -> bool
 fn same_fill(case: &[u8], reply: u32, bytes: &[u8; 16], count: u32) -> bool
     requires { 64 ≤ length case.now }
 {
-    let same = check::same(bytes, &case[32..48]) && count == words::le32(&case[48..]);
+    let same = &bytes[..] == &case[32..48] && count == words::le32(&case[48..]);
     (reply != 0) == refused(case) && same
 }
 
@@ -162,7 +162,7 @@ fn same_rgba(case: &[u8], rgba: [f32; 4]) -> bool
 
 // A number's bits; those of a quiet NaN for every NaN.
 fn bits_of(number: f32) -> u32 {
-    if number != number {
+    if number.is_nan() {
         return 0x7fc0_0000;
     }
     f32::to_bits(number)

@@ -1,6 +1,6 @@
-// The library that Rust and C link: each public call under its plain name. A reply of 0 is acceptance, any other number is a
-// refusal: 1 to 14 of document 01, 15 of document 02. Nothing is asked of a caller that Rattle can see: every input has its reply, a
-// refused call leaves every lent byte as it was, and what is handed back is then zero.
+// The library's calls, each under the plain name by which crates/wentuqis_c exports it to Rust and C. A reply of 0 is acceptance,
+// any other number is a refusal: 1 to 14 of document 01, 15 of document 02. Nothing is asked of a caller that Rattle can see: every
+// input has its reply, a refused call leaves every lent byte as it was, and what is handed back is then zero.
 #![tactic(auto)]
 
 ghost use Rattle.std.specs.Prelude.{◌≡◌, [], ◌∷◌, ◌≤◌, ◌<◌, length, get_or};
@@ -28,24 +28,21 @@ use yuv_sets::YuvSet;
 // ---- conversion
 
 // No refusal: whether a conversion takes the pair of formats.
-#[unsafe(no_mangle)]
-pub extern "C" fn wentuqis_can_convert(src_format: u32, dst_format: u32) -> bool
+pub fn wentuqis_can_convert(src_format: u32, dst_format: u32) -> bool
     ensures { result ≡ can_convert src_format dst_format }
 {
     convert_reply::can_convert(src_format, dst_format)
 }
 
 // No refusal: whether UpdateSurface and UpdateTexture take the pair.
-#[unsafe(no_mangle)]
-pub extern "C" fn wentuqis_can_convert_update(src_format: u32, dst_format: u32) -> bool
+pub fn wentuqis_can_convert_update(src_format: u32, dst_format: u32) -> bool
     ensures { result ≡ can_convert_update src_format dst_format }
 {
     convert_reply::can_convert_update(src_format, dst_format)
 }
 
 // Refusals 1 to 4.
-#[unsafe(no_mangle)]
-pub extern "C" fn wentuqis_convert_region(
+pub fn wentuqis_convert_region(
     dst: &mut [u8],
     dst_format: u32,
     src: &[u8],
@@ -85,8 +82,7 @@ pub extern "C" fn wentuqis_convert_region(
 }
 
 // Refusals 1, 2, 15, 3 and 4, in this order: a YUV source by a set of numbers, which 15 refuses if it is not legal.
-#[unsafe(no_mangle)]
-pub extern "C" fn wentuqis_convert_region_with_set(
+pub fn wentuqis_convert_region_with_set(
     dst: &mut [u8],
     dst_format: u32,
     src: &[u8],
@@ -147,8 +143,7 @@ pub extern "C" fn wentuqis_convert_region_with_set(
 // ---- YUV
 
 // No refusal: red, green and blue of a sample by document 01's numbers.
-#[unsafe(no_mangle)]
-pub extern "C" fn wentuqis_yuv_to_rgb8(luma: u8, cb: u8, cr: u8, rgb: &mut [u8; 3])
+pub fn wentuqis_yuv_to_rgb8(luma: u8, cb: u8, cr: u8, rgb: &mut [u8; 3])
     ensures is { rgb.new ≡ rgb_list (rgb_of bt601 luma cb cr) }
     ensures near { RgbNear decimal_unit decimal_slack (red_decimal luma cb cr) (green_decimal luma cb cr) (blue_decimal luma cb cr) (colour_in rgb.new) }
 {
@@ -159,8 +154,7 @@ pub extern "C" fn wentuqis_yuv_to_rgb8(luma: u8, cb: u8, cr: u8, rgb: &mut [u8; 
 // ---- planar layouts
 
 // Refusal 14. The values are pitch, luma rows, chroma rows and total bytes.
-#[unsafe(no_mangle)]
-pub extern "C" fn wentuqis_planar_yuv_layout(
+pub fn wentuqis_planar_yuv_layout(
     format: u32,
     width: u32,
     height: u32,
@@ -175,8 +169,7 @@ pub extern "C" fn wentuqis_planar_yuv_layout(
 }
 
 // Refusal 14. The values are pitch, luma rows, chroma rows and total bytes.
-#[unsafe(no_mangle)]
-pub extern "C" fn wentuqis_planar_yuv_layout_from_pitch(
+pub fn wentuqis_planar_yuv_layout_from_pitch(
     format: u32,
     pitch: usize,
     luma_rows: usize,
@@ -195,8 +188,7 @@ pub extern "C" fn wentuqis_planar_yuv_layout_from_pitch(
 // ---- fills
 
 // Refusal 5. The pixel's bytes come first, zeros after them.
-#[unsafe(no_mangle)]
-pub extern "C" fn wentuqis_d3dcolor_fill_pixel_bytes(
+pub fn wentuqis_d3dcolor_fill_pixel_bytes(
     color: u32,
     format: u32,
     bytes: &mut [u8; 16],
@@ -215,16 +207,14 @@ pub extern "C" fn wentuqis_d3dcolor_fill_pixel_bytes(
 }
 
 // No refusal: byte i becomes byte i mod n of a pattern of n bytes; an empty pattern leaves every byte.
-#[unsafe(no_mangle)]
-pub extern "C" fn wentuqis_splat_pixel_pattern(dst: &mut [u8], pixel: &[u8])
+pub fn wentuqis_splat_pixel_pattern(dst: &mut [u8], pixel: &[u8])
     ensures bytes { Splat pixel.now dst.old dst.new }
 {
     splat::splat_pixel_pattern(dst, pixel);
 }
 
 // No refusal: the binary16 pattern of a binary32 pattern.
-#[unsafe(no_mangle)]
-pub extern "C" fn wentuqis_f32_to_f16_bits(bits: u32) -> u16
+pub fn wentuqis_f32_to_f16_bits(bits: u32) -> u16
     ensures is { result ≡ half_of bits }
     ensures nearest { HalfOf bits result }
 {
@@ -232,8 +222,7 @@ pub extern "C" fn wentuqis_f32_to_f16_bits(bits: u32) -> u16
 }
 
 // Red, green, blue and alpha, each its byte over 255.
-#[unsafe(no_mangle)]
-pub extern "C" fn wentuqis_d3dcolor_to_rgba_f32(color: u32, rgba: &mut [f32; 4])
+pub fn wentuqis_d3dcolor_to_rgba_f32(color: u32, rgba: &mut [f32; 4])
     ensures is { rgba.new ≡ (unorm_of (byte_of color red) ∷ unorm_of (byte_of color green) ∷ unorm_of (byte_of color blue) ∷ unorm_of (byte_of color alpha) ∷ []) }
 {
     *rgba = colours::d3dcolor_to_rgba_f32(color);
@@ -242,13 +231,7 @@ pub extern "C" fn wentuqis_d3dcolor_to_rgba_f32(color: u32, rgba: &mut [f32; 4])
 // ---- depth
 
 // Refusals 6 to 8. The values are width, height, depth pitch and stencil pitch.
-#[unsafe(no_mangle)]
-pub extern "C" fn wentuqis_plane_layout(
-    width: u32,
-    height: u32,
-    alignment: u32,
-    layout: &mut [u64; 4],
-) -> u32
+pub fn wentuqis_plane_layout(width: u32, height: u32, alignment: u32, layout: &mut [u64; 4]) -> u32
     ensures reply { result ≡ layout_refusal width height alignment }
     ensures values { layout.new ≡ plane_values (layout_for width height alignment) }
     ensures stands { result ≡ 0 → Stands (planes_in layout.new) }
@@ -258,8 +241,7 @@ pub extern "C" fn wentuqis_plane_layout(
 }
 
 // Refusals 9 to 13.
-#[unsafe(no_mangle)]
-pub extern "C" fn wentuqis_unpack(
+pub fn wentuqis_unpack(
     format: u32,
     width: usize,
     height: usize,
@@ -286,8 +268,7 @@ pub extern "C" fn wentuqis_unpack(
 }
 
 // Refusals 9 to 13.
-#[unsafe(no_mangle)]
-pub extern "C" fn wentuqis_pack(
+pub fn wentuqis_pack(
     format: u32,
     width: usize,
     height: usize,
