@@ -4,7 +4,6 @@ use Prim.Native.Nat.{◌%◌}
 use native.Mathlib.Nat.{mul_comm}
 use native.Mathlib.Omega.{arith}
 use Rattle.channels.specs.Expansion.{expanded_whole}
-use borrow.Author.Rules.{rules}
 use Rattle.channels.proofs.expand2.Goals as goal
 
 pub returns : goal.returns

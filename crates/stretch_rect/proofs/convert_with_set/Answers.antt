@@ -7,7 +7,6 @@ use lib.IntN.{ℤ, ◌+ℤ◌, ◌-ℤ◌}
 use lib.Signed.{mag}
 use mir.Syntax.{w64}
 use mir.Val.{SFits, to_z, of_z}
-use borrow.Author.Rules.{rules}
 use Rattle.words.specs.Integers.{clamp_to}
 use Rattle.words.specs.Machine.{asks, gives, kept}
 use Rattle.words.specs.Ranges.{Within, small, plus, less, mag_small}
@@ -131,4 +130,4 @@ returns c =
     (c.to8-r.ensures ∙ ap byte (add_is luma v_red))
     (c.to8-g.ensures ∙ ap byte (sub2_is luma u_green v_green))
     (c.to8-b.ensures ∙ ap byte (add_is luma u_blue))) in
-    record { is = both.0; near = both.1; }
+    record { is = both.0; near = both.1 }
