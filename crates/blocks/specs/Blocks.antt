@@ -5,7 +5,8 @@ use Rattle.std.specs.Prelude.{◌≡◌, refl, List, ℕ, ◌+◌, ◌*◌, ◌�
 use Rattle.std.proofs.Common.{sym, ap, ◌∙◌, subst, ⊎_elim, add-mul, mul-le-mul_right, arith, length-drop, get_or-set_same, get_or-set_other}
 use Rattle.std.proofs.lemmas.List.Edits.{sets}
 use Rattle.words.specs.Little.{number, number_split}
-use Rattle.words.specs.Iterate.{iterate, iterate_step}
+use Rattle.words.specs.Iterate.{iterate}
+use Rattle.words.proofs.IterateLaws.{iterate_step}
 use Rattle.words.specs.Tests.{lt_or_eq}
 use Rattle.formats.specs.Codes.{R8G8B8, A8R8G8B8, X8R8G8B8}
 use Rattle.formats.specs.Table.{parts_of, bytes_of}

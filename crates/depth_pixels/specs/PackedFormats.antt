@@ -94,21 +94,6 @@ word_lt D16 c s h b = packed_lt (λ p. part_code c s p.channel) (parts_of codes.
 word_lt D24X8 c s h b = packed_lt (λ p. part_code c s p.channel) (parts_of codes.D24X8) (omega arith, (omega arith, tt))
 word_lt D24S8 c s h b = packed_lt (λ p. part_code c s p.channel) (parts_of codes.D24S8) (omega arith, (omega arith, tt))
 
--- ---- a format with no X
-restored_d16 : (w : ℕ) → w < 2 ^ (bytes_of codes.D16 * 8) → pixel_word codes.D16 (depth_code codes.D16 w) (stencil_code codes.D16 w) ≡ w
-unfolding pixel_word depth_code stencil_code bytes_of lane_of parts_of
-restored_d16 w h = omega arith
-
-restored_d24s8 : (w : ℕ) → w < 2 ^ (bytes_of codes.D24S8 * 8) → pixel_word codes.D24S8 (depth_code codes.D24S8 w) (stencil_code codes.D24S8 w) ≡ w
-unfolding pixel_word depth_code stencil_code bytes_of lane_of parts_of
-restored_d24s8 w h = omega arith
-
-pub word_restored : (f : ℕ) → KeepsAll f → (w : ℕ) → w < 2 ^ (bytes_of f * 8) → pixel_word f (depth_code f w) (stencil_code f w) ≡ w
-word_restored f k w h =
-    ⊎_elim (λ e. subst (λ f. w < 2 ^ (bytes_of f * 8) → pixel_word f (depth_code f w) (stencil_code f w) ≡ w) (sym e) (restored_d16 w) h)
-    (λ e. subst (λ f. w < 2 ^ (bytes_of f * 8) → pixel_word f (depth_code f w) (stencil_code f w) ≡ w) (sym e) (restored_d24s8 w) h)
-    k
-
 -- ---- as numbers
 pub max_d16 : max_code codes.D16 ≡ 65535
 unfolding max_code lane_of parts_of

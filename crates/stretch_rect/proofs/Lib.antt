@@ -2,3 +2,6 @@
 pub mod Sizes
 pub mod Codes
 pub mod Places
+pub mod Decimals
+pub mod NearnessLaws
+pub mod ExactLaws

@@ -4,7 +4,8 @@ use Prim.Native.Nat.{ℕ, ◌+◌, ◌*◌, ◌/◌, ◌%◌, ◌<◌, ◌^◌}
 use native.Mathlib.Nat.{add-zero}
 use native.Mathlib.Omega.{arith}
 use lib.Ieee.{binary32, of_bits}
-use Rattle.binary16.specs.Half.{code_of, code_small, half_of, HalfOf, half_of_lem, nearest_half}
+use Rattle.binary16.specs.Half.{code_of, half_of, HalfOf, nearest_half}
+use Rattle.binary16.proofs.HalfLaws.{code_small, half_of_lem}
 use Rattle.binary16.specs.Patterns.{nan_code, overflow_code, zero_code, unit_code, nearest_code_lem, float_units}
 use Rattle.binary16.proofs.f32_to_f16_bits.Goals as goal
 

@@ -3,7 +3,8 @@ use Prim.Native.Nat.{◌*◌, ◌≤◌}
 use native.Mathlib.Nat.{mul-le-mul_left}
 use native.Mathlib.Omega.{arith}
 use lib.Ieee.{Float, binary32, of_bits}
-use Rattle.channels.specs.Nearest.{rounded, rounded_le, is_up}
+use Rattle.channels.specs.Nearest.{rounded, rounded_le}
+use Rattle.channels.proofs.NearestLaws.{is_up}
 use Rattle.channels.specs.Floats.{clamped, bottom_pos, top_le}
 use Rattle.channels.proofs.f32_to_unorm8.Goals as goal
 

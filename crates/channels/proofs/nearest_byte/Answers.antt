@@ -3,7 +3,8 @@ use mathlib.Core.Path.{◌≡◌, ap}
 use Prim.Native.Nat.{ℕ, ◌+◌, ◌*◌, ◌/◌, ◌<◌}
 use native.Mathlib.Nat.{div-lt_iff_lt-mul}
 use native.Mathlib.Omega.{arith}
-use Rattle.channels.specs.Nearest.{rounded, is_up}
+use Rattle.channels.specs.Nearest.{rounded}
+use Rattle.channels.proofs.NearestLaws.{is_up}
 use Rattle.channels.proofs.nearest_byte.Goals as goal
 
 doubled : (k m : ℕ) → (510 * k + m) / (2 * m) ≡ rounded (255 * k) m

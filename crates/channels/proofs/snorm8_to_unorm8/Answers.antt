@@ -3,7 +3,8 @@ use mathlib.Core.Path.{refl, ap, ◌∙◌}
 use Prim.Native.Nat.{◌*◌, ◌%◌}
 use native.Mathlib.Omega.{arith}
 use Rattle.channels.specs.Nearest.{rounded, is_odd}
-use Rattle.channels.specs.Exact.{not_negative, signed_le}
+use Rattle.channels.specs.Exact.{not_negative}
+use Rattle.channels.proofs.ExactLaws.{signed_le}
 use Rattle.channels.proofs.snorm8_to_unorm8.Goals as goal
 
 pub nearest_byte-requires : goal.nearest_byte-requires

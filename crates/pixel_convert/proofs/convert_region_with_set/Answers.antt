@@ -5,7 +5,7 @@ use native.Mathlib.Omega.{arith}
 use lib.Dec.{eqb}
 use Rattle.convert_reply.specs.Replies.{reply_number}
 use Rattle.convert_reply.specs.Passed.{is_accepted}
-use Rattle.regions.specs.Answers.{refused, accepted, empty, promised, set_fits, rows_fit}
+use Rattle.regions.proofs.Answers.{refused, accepted, empty, promised, set_fits, rows_fit}
 use Rattle.pixel_convert.proofs.convert_region_with_set.Goals as goal
 
 pub returns-then-not-is_accepted : goal.returns-then-not-is_accepted

@@ -2,7 +2,8 @@
 use mathlib.Core.Path.{◌≡◌, sym, ap, ◌∙◌}
 use native.Mathlib.Omega.{arith}
 use Rattle.formats.specs.Classes.{linear_row_pitch}
-use Rattle.planar_yuv.specs.Answers.{reply_of, from_pitch, of_width, width_none, width_large, planes_of, rows_hold}
+use Rattle.planar_yuv.specs.Answers.{reply_of, from_pitch, of_width, width_none, width_large, rows_hold}
+use Rattle.planar_yuv.proofs.AnswersLaws.{planes_of}
 use Rattle.planar_yuv.proofs.planar_yuv_layout.Goals as goal
 
 pub returns-then-width-eq0 : goal.returns-then-width-eq0

@@ -1,7 +1,8 @@
 -- `planar_yuv::planar_yuv_layout_from_pitch` meets its contract: what does not fit 32 bits breaks a rule. Assumes nothing.
 use mathlib.Core.Path.{sym}
 use native.Mathlib.Omega.{arith}
-use Rattle.planar_yuv.specs.Answers.{not_given, planes_of}
+use Rattle.planar_yuv.specs.Answers.{not_given}
+use Rattle.planar_yuv.proofs.AnswersLaws.{planes_of}
 use Rattle.planar_yuv.proofs.planar_yuv_layout_from_pitch.Goals as goal
 
 pub returns-then-pitch : goal.returns-then-pitch

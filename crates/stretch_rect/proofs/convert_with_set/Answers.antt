@@ -13,7 +13,7 @@ use Rattle.words.specs.Ranges.{Within, small, plus, less, mag_small}
 use Rattle.stretch_rect.specs.declared.Rgb.{Rgb}
 use Rattle.yuv_sets.specs.declared.YuvSet.{YuvSet}
 use Rattle.stretch_rect.specs.Yuv.{luma_part, chroma_part, nearest_whole, rgb_of, red_rounded, green_rounded, blue_rounded, red_exact, green_exact, blue_exact, RgbNear, set_unit, set_slack}
-use Rattle.stretch_rect.specs.Nearness.{set_near}
+use Rattle.stretch_rect.proofs.NearnessLaws.{set_near}
 use Rattle.stretch_rect.proofs.Sizes.{luma_range, chroma_range}
 use Rattle.stretch_rect.proofs.convert_with_set.Goals as goal
 

@@ -4,7 +4,7 @@ use native.Mathlib.Omega.{arith}
 use Rattle.yuv_sets.specs.Sets.{bt601}
 use Rattle.yuv_sets.specs.Legal.{Legal, legal, bt601_legal}
 use Rattle.stretch_rect.specs.Yuv.{rgb_of, RgbNear, decimal_unit, decimal_slack, red_decimal, green_decimal, blue_decimal}
-use Rattle.stretch_rect.specs.Decimals.{bt601_near}
+use Rattle.stretch_rect.proofs.Decimals.{bt601_near}
 use Rattle.stretch_rect.proofs.yuv_to_rgb8.Goals as goal
 
 pub convert_with_set-requires : goal.convert_with_set-requires
