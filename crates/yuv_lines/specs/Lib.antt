@@ -1,0 +1,2 @@
+-- What the contracts cite, and laws that other crates cite.
+pub mod Pairs

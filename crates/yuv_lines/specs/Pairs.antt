@@ -1,0 +1,80 @@
+-- The words of two texels that share their chroma, by the lines of a set. Assumes nothing.
+use Rattle.std.specs.Prelude.{◌≡◌, ℕ, ◌≤◌}
+use Rattle.std.proofs.Common.{sym, ◌∙◌}
+use Rattle.formats.specs.Codes.{A8R8G8B8}
+use Rattle.texels.specs.Texels.{encoded_of}
+use Rattle.yuv_sets.specs.declared.YuvSet.{YuvSet}
+use Rattle.yuv_sets.specs.Legal.{Legal}
+use Rattle.stretch_rect.specs.declared.Rgb.{Rgb}
+use Rattle.stretch_rect.specs.Yuv.{rgb_of}
+use Rattle.yuv_parts.specs.Parts.{joined, joined_set}
+use Rattle.yuv_parts.specs.Lines.{luma_base_of, chroma_base_of, on_line, luma_line, chroma_line, luma_base_small, chroma_base_small}
+use Rattle.regions.specs.Regions.{opaque_of}
+use Rattle.yuv_lines.specs.declared.Lines.{Lines}
+use Rattle.yuv_lines.specs.declared.Samples.{Samples}
+use Rattle.yuv_lines.specs.declared.Pair.{Pair}
+
+-- the lines of a set
+unfoldable pub lines_of : YuvSet → Lines
+lines_of s = record {
+  luma_gain = s.luma_gain;
+  luma_base = luma_base_of s.luma_offset s.luma_gain;
+  v_to_red = s.v_to_red;
+  v_red_base = chroma_base_of s.chroma_centre s.v_to_red;
+  u_to_green = s.u_to_green;
+  u_green_base = chroma_base_of s.chroma_centre s.u_to_green;
+  v_to_green = s.v_to_green;
+  v_green_base = chroma_base_of s.chroma_centre s.v_to_green;
+  u_to_blue = s.u_to_blue;
+  u_blue_base = chroma_base_of s.chroma_centre s.u_to_blue;
+}
+
+-- 32 bits have room for a line with such a gain and such a base
+pub record LineSized (gain base : ℕ) : Type 0 where
+  pub gain_most : gain ≤ 262143
+  pub base_most : base ≤ 67108864
+
+-- and for five such lines
+pub record Sized (l : Lines) : Type 0 where
+  pub luma : LineSized l.luma_gain l.luma_base
+  pub v_red : LineSized l.v_to_red l.v_red_base
+  pub u_green : LineSized l.u_to_green l.u_green_base
+  pub v_green : LineSized l.v_to_green l.v_green_base
+  pub u_blue : LineSized l.u_to_blue l.u_blue_base
+
+-- the colour of a sample whose parts lie on lines
+unfoldable pub rgb_on : Lines → (y u v : ℕ) → Rgb
+rgb_on l y u v =
+    joined (on_line l.luma_gain l.luma_base y) (on_line l.v_to_red l.v_red_base v)
+    (on_line l.u_to_green l.u_green_base u) (on_line l.v_to_green l.v_green_base v) (on_line l.u_to_blue l.u_blue_base u)
+
+-- the A8R8G8B8 word of a colour
+abbrev pub opaque_word : Rgb → ℕ
+opaque_word p = encoded_of A8R8G8B8 (opaque_of p)
+
+-- the words of two texels, of a luma each and the same U and V
+unfoldable pub pair_on : Lines → Samples → Pair
+pair_on l s = record { first = opaque_word (rgb_on l s.first s.u s.v); second = opaque_word (rgb_on l s.second s.u s.v) }
+
+-- ---- the lines of a legal set
+-- on them lie a set's own colours
+pub set_lines : (s : YuvSet) (y u v : ℕ) → rgb_on (lines_of s) y u v ≡ rgb_of s y u v
+unfolding rgb_on lines_of
+set_lines s y u v =
+    let n = s.chroma_centre in
+    sym (λ i. joined (luma_line s.luma_offset s.luma_gain y i) (chroma_line n s.v_to_red v i) (chroma_line n s.u_to_green u i) (chroma_line n s.v_to_green v i) (chroma_line n s.u_to_blue u i))
+    ∙ joined_set s y u v
+
+-- and 32 bits have room for them
+pub set_sized : (s : YuvSet) → Legal s → Sized (lines_of s)
+unfolding lines_of
+set_sized s h = record {
+  luma = record { gain_most = h.luma_gain; base_most = luma_base_small s.luma_offset s.luma_gain h.luma_offset h.luma_gain };
+  v_red = chroma s.v_to_red h.v_to_red;
+  u_green = chroma s.u_to_green h.u_to_green;
+  v_green = chroma s.v_to_green h.v_to_green;
+  u_blue = chroma s.u_to_blue h.u_to_blue;
+}
+  where
+    chroma : (g : ℕ) → g ≤ 262143 → LineSized g (chroma_base_of s.chroma_centre g)
+    chroma g hg = record { gain_most = hg; base_most = chroma_base_small s.chroma_centre g h.centre_most hg }

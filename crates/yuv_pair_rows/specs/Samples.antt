@@ -1,0 +1,225 @@
+-- Where the samples of a YUV texel lie, column by column, and that the pairs of a row lie in steps. Assumes nothing.
+use Rattle.std.specs.Prelude.{◌≡◌, Bool, ◌&&◌, List, [], ◌∷◌, ℕ, ◌+◌, ◌*◌, ◌/◌, ◌%◌, ◌<◌, ltb, length, take, drop}
+use Rattle.std.proofs.Math.Path.{refl, sym, ap, ap₂, subst}
+use Rattle.std.proofs.Common.{◌∙◌, ltb-true, eq-eqb, ne_eqb}
+use Rattle.std.proofs.Math.Bool.{true, false}
+use Rattle.std.proofs.lemmas.Bool.{false≢true}
+use Rattle.std.proofs.Math.Nat.{add-mul}
+use native.Mathlib.Omega.{arith}
+use Rattle.std.proofs.Math.Dec.{eqb}
+use Rattle.std.proofs.Math.ListN.{get_or}
+use Rattle.std.proofs.Math.Seq.{get_or-take, get_or-drop}
+use Rattle.words.specs.Tests.{pick, and_left, and_right}
+use Rattle.formats.specs.Codes.{YUY2, YV12}
+use Rattle.formats.specs.Classes.{is_packed_yuv, is_planar_yuv, is_yuv}
+use Rattle.planar_yuv.specs.Rules.{allowed}
+use Rattle.planar_yuv.specs.Offsets.{contains, contains_is, luma_offset_at, u_offset_at, v_offset_at, nv12_u, nv12_v, yv12_u, yv12_v}
+use Rattle.planar_yuv.specs.declared.PlanarYuvLayout.{PlanarYuvLayout}
+use Rattle.planar_yuv.specs.Answers.{layout_of, layout_reply, refusal, from_pitch, TexelOf}
+use Rattle.places.specs.Places.{absent, offsets, texel_start, planar_places, places_at, places_in, bytes_at}
+use Rattle.places.specs.Planar.{LayoutFor, laid_out}
+use Rattle.places.specs.Inside.{packed_ends, planar_places_lem}
+use Rattle.yuv_sets.specs.declared.YuvSet.{YuvSet}
+use Rattle.stretch_rect.specs.Yuv.{rgb_of}
+use Rattle.stretch_rect.specs.Samples.{luma_place, u_place, v_place}
+use Rattle.regions.specs.Regions.{opaque_of, texel_of, texel_at}
+use Rattle.regions.specs.Fetch.{kind, place_lt, packed_texel, planar_texel}
+use Rattle.yuv_pairs.specs.Gathered.{luma_step, luma_gap, chroma_step, Arranged}
+use Rattle.yuv_pair_rows.specs.declared.PairPlaces.{PairPlaces}
+
+module _ (f pitch slice_pitch z y : ℕ) where
+  -- the macropixel of a column
+  abbrev pub macro_start : ℕ → ℕ
+  macro_start x = texel_start pitch slice_pitch 4 z y (x / 2)
+
+  -- the luma of the texel at column x: in its macropixel by format and column, or in the plane of luma
+  unfoldable pub luma_on : ℕ → ℕ
+  luma_on x = pick (is_packed_yuv f) (macro_start x + luma_place f (eqb (x % 2) 1)) (luma_offset_at pitch x y)
+
+  -- its U
+  unfoldable pub u_on : ℕ → ℕ
+  u_on x = pick (is_packed_yuv f) (macro_start x + u_place f) (u_offset_at f pitch (slice_pitch / pitch) x y)
+
+  -- its V
+  unfoldable pub v_on : ℕ → ℕ
+  v_on x = pick (is_packed_yuv f) (macro_start x + v_place f) (v_offset_at f pitch (slice_pitch / pitch) x y)
+
+-- ---- a texel that is inside
+-- its three samples lie below len
+pub record SamplesIn (len f pitch slice_pitch z y x : ℕ) : Type 0 where
+  pub luma_in : luma_on f pitch slice_pitch z y x < len
+  pub u_in : u_on f pitch slice_pitch z y x < len
+  pub v_in : v_on f pitch slice_pitch z y x < len
+
+-- what a planar texel that is inside has
+record PlanarIn (len f pitch rows x y : ℕ) : Type 0 where
+  has_layout : allowed f pitch rows ≡ true
+  has_texel : contains pitch rows x y ≡ true
+  luma_below : luma_offset_at pitch x y < len
+  u_below : u_offset_at f pitch rows x y < len
+  v_below : v_offset_at f pitch rows x y < len
+
+planar_in : (len f pitch rows x y : ℕ) → places_in len (planar_places f pitch rows y x) ≡ true → PlanarIn len f pitch rows x y
+unfolding places_in
+planar_in len f pitch rows x y h = go (allowed f pitch rows) (contains pitch rows x y) refl refl h
+  where
+    lo : ℕ
+    lo = luma_offset_at pitch x y
+
+    uo : ℕ
+    uo = u_offset_at f pitch rows x y
+
+    vo : ℕ
+    vo = v_offset_at f pitch rows x y
+
+    go : (a c : Bool) → allowed f pitch rows ≡ a → contains pitch rows x y ≡ c → places_in len (pick a (pick c (offsets (lo ∷ uo ∷ vo ∷ [])) absent) absent) ≡ true → PlanarIn len f pitch rows x y
+    go true true e k t =
+        let rest = and_right (ltb lo len) (ltb uo len && (ltb vo len && true)) t in
+        record {
+          has_layout = e;
+          has_texel = k;
+          luma_below = ltb-true lo len (and_left (ltb lo len) (ltb uo len && (ltb vo len && true)) t);
+          u_below = ltb-true uo len (and_left (ltb uo len) (ltb vo len && true) rest);
+          v_below = ltb-true vo len (and_left (ltb vo len) true (and_right (ltb uo len) (ltb vo len && true) rest));
+        }
+    go true false e k t = absurd (false≢true t)
+    go false c e k t = absurd (false≢true t)
+
+module _ (numbers : YuvSet) (src : List ℕ) (f pitch slice_pitch z y x : ℕ) (yuv : is_yuv f ≡ true) (h : places_in (length src) (places_at f pitch slice_pitch z y x) ≡ true) where
+  inside : is_planar_yuv f ≡ true → PlanarIn (length src) f pitch (slice_pitch / pitch) x y
+  inside p = planar_in (length src) f pitch (slice_pitch / pitch) x y (sym (ap (places_in (length src)) (planar_places_lem f pitch slice_pitch z y x p)) ∙ h)
+
+  pub samples_in : SamplesIn (length src) f pitch slice_pitch z y x
+  unfolding luma_on u_on v_on
+  samples_in = kind f yuv
+      (λ p q.
+      let e = packed_ends (length src) f pitch slice_pitch z y x h p q in
+      let l = place_lt (eqb f YUY2) (eqb (x % 2) 1) in
+      record { luma_in = rw q (omega (arith, e, l.0)); u_in = rw q (omega (arith, e, l.1)); v_in = rw q (omega (arith, e, l.2)) })
+      (λ p q. record { luma_in = rw q (inside p).luma_below; u_in = rw q (inside p).u_below; v_in = rw q (inside p).v_below })
+
+  -- a texel's colour is that of its three samples
+  pub texel_samples : texel_at numbers src f pitch slice_pitch z y x
+      ≡ opaque_of (rgb_of numbers (get_or src (luma_on f pitch slice_pitch z y x) 0) (get_or src (u_on f pitch slice_pitch z y x) 0) (get_or src (v_on f pitch slice_pitch z y x) 0))
+  unfolding luma_on u_on v_on texel_of bytes_at
+  texel_samples = kind f yuv
+      (λ p q.
+      let s = texel_start pitch slice_pitch 4 z y (x / 2) in
+      let odd = eqb (x % 2) 1 in
+      let l = place_lt (eqb f YUY2) odd in
+      let byte : (k : ℕ) → k < 4 → get_or (take 4 (drop s src)) k 0 ≡ get_or src (s + k) 0 = λ k b. get_or-take 4 (drop s src) k 0 b ∙ get_or-drop s src k 0 in
+      packed_texel numbers src f pitch slice_pitch z y x p q (packed_ends (length src) f pitch slice_pitch z y x h p q)
+      ∙ rw (q, byte (luma_place f odd) l.0, byte (u_place f) l.1, byte (v_place f) l.2) refl)
+      (λ p q. planar_texel numbers src f pitch slice_pitch z y x p ∙ rw ((inside p).has_layout, (inside p).has_texel, q, p) refl)
+
+-- ---- pairs: column x is even
+module _ (f pitch slice_pitch z y x : ℕ) (yuv : is_yuv f ≡ true) (even : x % 2 ≡ 0) where
+  halves : (k : ℕ) → ((x + 2 * k) / 2 ≡ x / 2 + k) × ((x + (2 * k + 1)) / 2 ≡ x / 2 + k)
+  halves k = (omega (arith, even), omega (arith, even))
+
+  odds : (k : ℕ) → (eqb ((x + 2 * k) % 2) 1 ≡ false) × (eqb ((x + (2 * k + 1)) % 2) 1 ≡ true)
+  odds k = (ne_eqb ((x + 2 * k) % 2) 1 (λ e. omega (arith, even, e)), eq-eqb ((x + (2 * k + 1)) % 2) 1 (omega (arith, even)))
+
+  even_here : eqb (x % 2) 1 ≡ false
+  even_here = ne_eqb (x % 2) 1 (λ e. omega (arith, even, e))
+
+  -- a macropixel further on
+  macro_step : (k : ℕ) → texel_start pitch slice_pitch 4 z y (x / 2 + k) ≡ texel_start pitch slice_pitch 4 z y (x / 2) + k * 4
+  unfolding texel_start
+  macro_step k = omega (arith, add-mul (x / 2) k 4)
+
+  luma_place_lem : (a : Bool) → pick a 2 3 ≡ pick a 0 1 + 2
+  luma_place_lem true = refl
+  luma_place_lem false = refl
+
+  -- k pairs on, the first luma, the second, U and V
+  pub first_on : (k : ℕ) → luma_on f pitch slice_pitch z y (x + 2 * k) ≡ luma_on f pitch slice_pitch z y x + k * luma_step f
+  unfolding luma_on luma_step luma_offset_at
+  first_on k = kind f yuv
+      (λ p q. rw (q, (odds k).0, even_here, (halves k).0) (omega (arith, macro_step k)))
+      (λ p q. rw q (omega arith))
+
+  pub second_on : (k : ℕ) → luma_on f pitch slice_pitch z y (x + (2 * k + 1)) ≡ luma_on f pitch slice_pitch z y x + luma_gap f + k * luma_step f
+  unfolding luma_on luma_step luma_gap luma_offset_at
+  second_on k = kind f yuv
+      (λ p q. rw (q, (odds k).1, even_here, (halves k).1) (omega (arith, macro_step k, luma_place_lem (eqb f YUY2))))
+      (λ p q. rw q (omega arith))
+
+  -- U and V of a planar texel go by half its column
+  planar_u : (t : Bool) (rows x' k : ℕ) → x' / 2 ≡ x / 2 + k → pick t yv12_u nv12_u pitch rows x' y ≡ pick t yv12_u nv12_u pitch rows x y + k * pick t 1 2
+  unfolding yv12_u yv12_v nv12_u
+  planar_u true rows x' k e = omega (arith, e)
+  planar_u false rows x' k e = omega (arith, e)
+
+  planar_v : (t : Bool) (rows x' k : ℕ) → x' / 2 ≡ x / 2 + k → pick t yv12_v nv12_v pitch rows x' y ≡ pick t yv12_v nv12_v pitch rows x y + k * pick t 1 2
+  unfolding yv12_v nv12_v nv12_u
+  planar_v true rows x' k e = omega (arith, e)
+  planar_v false rows x' k e = omega (arith, e)
+
+  pub u_on_lem : (x' k : ℕ) → x' / 2 ≡ x / 2 + k → u_on f pitch slice_pitch z y x' ≡ u_on f pitch slice_pitch z y x + k * chroma_step f
+  unfolding u_on chroma_step u_offset_at
+  u_on_lem x' k e = kind f yuv
+      (λ p q. rw (q, e) (omega (arith, macro_step k)))
+      (λ p q. rw q (planar_u (eqb f YV12) (slice_pitch / pitch) x' k e))
+
+  pub v_on_lem : (x' k : ℕ) → x' / 2 ≡ x / 2 + k → v_on f pitch slice_pitch z y x' ≡ v_on f pitch slice_pitch z y x + k * chroma_step f
+  unfolding v_on chroma_step v_offset_at
+  v_on_lem x' k e = kind f yuv
+      (λ p q. rw (q, e) (omega (arith, macro_step k)))
+      (λ p q. rw q (planar_v (eqb f YV12) (slice_pitch / pitch) x' k e))
+
+  -- how the three lie to one another
+  pub arranged : Arranged f (luma_on f pitch slice_pitch z y x) (u_on f pitch slice_pitch z y x) (v_on f pitch slice_pitch z y x)
+  unfolding luma_on u_on v_on is_packed_yuv v_offset_at u_offset_at nv12_v
+  arranged = record {
+    yuy2 = λ e. rw (e, even_here) (omega arith, omega arith);
+    uyvy = λ e. rw (e, even_here) (omega arith, omega arith);
+    nv12 = λ e. rw e refl;
+  }
+
+-- ---- the places of a pair, as they are handed on
+-- those of a macropixel
+abbrev pub packed_pair : (f from : ℕ) → PairPlaces
+packed_pair f from = record { luma = from + luma_place f false; u = from + u_place f; v = from + v_place f }
+
+-- those of a texel of a planar layout
+abbrev pub planar_pair : (f pitch rows y x : ℕ) → PairPlaces
+planar_pair f pitch rows y x = record { luma = luma_offset_at pitch x y; u = u_offset_at f pitch rows x y; v = v_offset_at f pitch rows x y }
+
+-- those of the pair at column x
+abbrev pub pair_at : (f pitch slice_pitch z y x : ℕ) → PairPlaces
+pair_at f pitch slice_pitch z y x = record { luma = luma_on f pitch slice_pitch z y x; u = u_on f pitch slice_pitch z y x; v = v_on f pitch slice_pitch z y x }
+
+-- a planar texel that is inside is one of its layout
+pub record LaidOut (l : PlanarYuvLayout) (pitch rows x y : ℕ) : Type 0 where
+  pub texel : TexelOf l x y
+  pub pitch_is : l.pitch ≡ pitch
+  pub rows_are : l.luma_rows ≡ rows
+
+module _ (len f pitch slice_pitch z y x : ℕ) (l : PlanarYuvLayout) (p : is_planar_yuv f ≡ true) (is : l ≡ layout_of (from_pitch f pitch (slice_pitch / pitch)))
+    (for : LayoutFor f pitch (slice_pitch / pitch) l) (h : places_in len (places_at f pitch slice_pitch z y x) ≡ true) where
+  pub laid : LaidOut l pitch (slice_pitch / pitch) x y
+  unfolding from_pitch
+  laid =
+      let rows = slice_pitch / pitch in
+      let k = sym (ap (places_in len) (planar_places_lem f pitch slice_pitch z y x p)) ∙ h in
+      let i = planar_in len f pitch rows x y k in
+      let e : l ≡ layout_of (layout_reply pitch rows) = is ∙ ap (λ t. layout_of (pick t (layout_reply pitch rows) refusal)) i.has_layout in
+      let c = contains_is pitch rows x y i.has_texel in
+      record {
+        texel = record {
+          legal = (laid_out len f pitch rows l for y x k).0;
+          column = subst (λ q. x < q) (sym (ap (λ q. q.pitch) e)) c.0;
+          row = subst (λ q. y < q) (sym (ap (λ q. q.luma_rows) e)) c.1;
+        };
+        pitch_is = ap (λ q. q.pitch) e;
+        rows_are = ap (λ q. q.luma_rows) e;
+      }
+
+  pub planar_pair_lem : is_packed_yuv f ≡ false → planar_pair f l.pitch l.luma_rows y x ≡ pair_at f pitch slice_pitch z y x
+  unfolding luma_on u_on v_on
+  planar_pair_lem q = ap₂ (λ a b. planar_pair f a b y x) laid.pitch_is laid.rows_are ∙ rw q refl
+
+pub packed_pair_lem : (f pitch slice_pitch z y x : ℕ) → is_packed_yuv f ≡ true → x % 2 ≡ 0 → packed_pair f (texel_start pitch slice_pitch 4 z y (x / 2)) ≡ pair_at f pitch slice_pitch z y x
+unfolding luma_on u_on v_on
+packed_pair_lem f pitch slice_pitch z y x q even = rw (q, ne_eqb (x % 2) 1 (λ e. omega (arith, even, e))) refl

@@ -1,0 +1,215 @@
+-- Pairs of YUV texels that share their chroma: where their samples lie, what it is to gather them and to read the pairs' words, and the
+-- laws of one pair more. Assumes nothing.
+use Rattle.std.specs.Prelude.{◌≡◌, refl, Bool, true, false, ◌||◌, List, ◌⊎◌, ℕ, ◌+◌, ◌*◌, ◌/◌, ◌%◌, ◌^◌, ◌≤◌, ◌<◌, eqb, length, get_or, set, take, drop}
+use Rattle.std.proofs.Common.{sym, ap, ap₂, ◌∙◌, subst, inl, inr, ⊎_elim, arith, add-zero, div-one, lt_of_lt_of_le, lit<, length-set, length-take, get_or-set_same, get_or-set_other, get_or-take, get_or-drop, eqb-true}
+use Rattle.std.proofs.lemmas.Bool.{false≢true}
+use Rattle.std.proofs.Math.Nat.{pow-le-pow_right}
+use Rattle.words.specs.Tests.{pick, lt_or_eq}
+use Rattle.words.specs.Little.{Small, number, number_byte, number_lt, small_take, small_drop}
+use Rattle.formats.specs.Codes.{YUY2, UYVY, NV12, YV12}
+use Rattle.formats.specs.Classes.{is_packed_yuv, is_planar_yuv, is_yuv}
+use Rattle.yuv_lines.specs.declared.Lines.{Lines}
+use Rattle.yuv_lines.specs.Pairs.{rgb_on, opaque_word}
+
+-- ---- where samples lie
+-- so many bytes from a pair's first luma to that of the next pair: a macropixel has two lumas and their chroma, a plane lumas alone
+unfoldable pub luma_step : ℕ → ℕ
+luma_step f = pick (is_packed_yuv f) 4 2
+
+-- so many from the first luma of a pair to the second: in a macropixel a chroma stands between them
+unfoldable pub luma_gap : ℕ → ℕ
+luma_gap f = pick (is_packed_yuv f) 2 1
+
+-- so many from a pair's U to that of the next pair, and from V to V: YV12 has a plane of each, NV12 one of both
+unfoldable pub chroma_step : ℕ → ℕ
+chroma_step f = pick (is_packed_yuv f) 4 (pick (eqb f YV12) 1 2)
+
+-- how luma, U and V lie to one another where they share a macropixel or a plane
+pub record Arranged (f luma u v : ℕ) : Type 0 where
+  pub yuy2 : f ≡ YUY2 → (u ≡ luma + 1) × (v ≡ luma + 3)
+  pub uyvy : f ≡ UYVY → (luma ≡ u + 1) × (v ≡ u + 2)
+  pub nv12 : f ≡ NV12 → v ≡ u + 1
+
+-- the samples of pair k lie below len
+pub record PairIn (len f luma u v k : ℕ) : Type 0 where
+  pub lumas : luma + luma_gap f + k * luma_step f < len
+  pub us : u + k * chroma_step f < len
+  pub vs : v + k * chroma_step f < len
+
+-- those of n pairs do
+abbrev pub PairsIn : (len f luma u v n : ℕ) → Type 0
+PairsIn len f luma u v n = (k : ℕ) → k < n → PairIn len f luma u v k
+
+-- ---- gathering
+-- byte i of a word
+abbrev pub byte_at : (m i : ℕ) → ℕ
+byte_at m i = m / 2 ^ (i * 8) % 256
+
+-- bytes p and p + 2 of a word, as one word
+unfoldable pub two_bytes : (m p : ℕ) → ℕ
+two_bytes m p = byte_at m p + byte_at m (p + 2) * 256
+
+-- n words were gathered: each has a byte from a on, and above it one from b on, both a step further than the word before
+pub record Gathered (src : List ℕ) (a b step n : ℕ) (out : List ℕ) : Type 0 where
+  pub words : (k : ℕ) → k < n → get_or out k 0 ≡ get_or src (a + k * step) 0 + get_or src (b + k * step) 0 * 256
+
+-- ---- words
+-- the word of a sample whose parts lie on lines
+unfoldable pub word_on : Lines → (y u v : ℕ) → ℕ
+word_on l y u v = opaque_word (rgb_on l y u v)
+
+-- n pairs were coloured: each word of lumas has two of them, and each of chromas a U and above it a V; what stands behind their words is as it was
+pub record Coloured (l : Lines) (lumas chromas : List ℕ) (n : ℕ) (was block : List ℕ) : Type 0 where
+  pub firsts : (k : ℕ) → k < n → get_or block (2 * k) 0 ≡ word_on l (get_or lumas k 0 % 256) (get_or chromas k 0 % 256) (get_or chromas k 0 / 256)
+  pub seconds : (k : ℕ) → k < n → get_or block (2 * k + 1) 0 ≡ word_on l (get_or lumas k 0 / 256) (get_or chromas k 0 % 256) (get_or chromas k 0 / 256)
+  pub others : (j : ℕ) → 2 * n ≤ j → get_or block j 0 ≡ get_or was j 0
+
+-- n pairs were read, whose first samples lie at luma, u and v; what stands behind their words is as it was
+pub record PairsRead (l : Lines) (src : List ℕ) (f luma u v n : ℕ) (was block : List ℕ) : Type 0 where
+  pub firsts : (k : ℕ) → k < n → get_or block (2 * k) 0 ≡ word_on l (get_or src (luma + k * luma_step f) 0) (get_or src (u + k * chroma_step f) 0) (get_or src (v + k * chroma_step f) 0)
+  pub seconds : (k : ℕ) → k < n
+      → get_or block (2 * k + 1) 0 ≡ word_on l (get_or src (luma + luma_gap f + k * luma_step f) 0) (get_or src (u + k * chroma_step f) 0) (get_or src (v + k * chroma_step f) 0)
+  pub others : (j : ℕ) → 2 * n ≤ j → get_or block j 0 ≡ get_or was j 0
+
+-- ---- one more
+pub gather_more : (src : List ℕ) (a b step i : ℕ) (out : List ℕ) (w : ℕ) → Gathered src a b step i out → i < length out
+    → w ≡ get_or src (a + i * step) 0 + get_or src (b + i * step) 0 * 256 → Gathered src a b step (i + 1) (set out i w)
+gather_more src a b step i out w g h e = record {
+  words = λ k l.
+      ⊎_elim (λ less. get_or-set_other out i k w 0 (λ q. omega (arith, less, q)) ∙ g.words k less)
+      (λ same. ap (λ j. get_or (set out i w) j 0) same ∙ get_or-set_same out i w 0 h ∙ e ∙ ap (λ j. get_or src (a + j * step) 0 + get_or src (b + j * step) 0 * 256) (sym same))
+      (lt_or_eq k i (omega (arith, l)));
+}
+
+-- what stands at the other places of a block, and at the two that are set
+module _ (block : List ℕ) (i x y : ℕ) (h : 2 * i + 1 < length block) where
+  abbrev pub two_set : List ℕ
+  two_set = set (set block (2 * i) x) (2 * i + 1) y
+
+  kept_two : (j : ℕ) → (j ≡ 2 * i → ⊥) → (j ≡ 2 * i + 1 → ⊥) → get_or two_set j 0 ≡ get_or block j 0
+  kept_two j p q = get_or-set_other (set block (2 * i) x) (2 * i + 1) j y 0 q ∙ get_or-set_other block (2 * i) j x 0 p
+
+  first_two : get_or two_set (2 * i) 0 ≡ x
+  first_two = get_or-set_other (set block (2 * i) x) (2 * i + 1) (2 * i) y 0 (λ q. omega (arith, q)) ∙ get_or-set_same block (2 * i) x 0 (omega (arith, h))
+
+  second_two : get_or two_set (2 * i + 1) 0 ≡ y
+  second_two = get_or-set_same (set block (2 * i) x) (2 * i + 1) y 0 (omega (arith, h, length-set block (2 * i) x))
+
+  pub colour_more : (l : Lines) (lumas chromas was : List ℕ) → Coloured l lumas chromas i was block
+      → x ≡ word_on l (get_or lumas i 0 % 256) (get_or chromas i 0 % 256) (get_or chromas i 0 / 256)
+      → y ≡ word_on l (get_or lumas i 0 / 256) (get_or chromas i 0 % 256) (get_or chromas i 0 / 256)
+      → Coloured l lumas chromas (i + 1) was two_set
+  colour_more l lumas chromas was c e f = record {
+    firsts = λ k b.
+        ⊎_elim (λ less. kept_two (2 * k) (λ q. omega (arith, less, q)) (λ q. omega (arith, less, q)) ∙ c.firsts k less)
+        (λ same. ap (λ j. get_or two_set (2 * j) 0) same ∙ first_two ∙ e ∙ ap (λ j. word_on l (get_or lumas j 0 % 256) (get_or chromas j 0 % 256) (get_or chromas j 0 / 256)) (sym same))
+        (lt_or_eq k i (omega (arith, b)));
+    seconds = λ k b.
+        ⊎_elim (λ less. kept_two (2 * k + 1) (λ q. omega (arith, less, q)) (λ q. omega (arith, less, q)) ∙ c.seconds k less)
+        (λ same. ap (λ j. get_or two_set (2 * j + 1) 0) same ∙ second_two ∙ f ∙ ap (λ j. word_on l (get_or lumas j 0 / 256) (get_or chromas j 0 % 256) (get_or chromas j 0 / 256)) (sym same))
+        (lt_or_eq k i (omega (arith, b)));
+    others = λ j b. kept_two j (λ q. omega (arith, b, q)) (λ q. omega (arith, b, q)) ∙ c.others j (omega (arith, b));
+  }
+
+-- ---- gathered and coloured is read
+low_byte : (w a b : ℕ) → w ≡ a + b * 256 → a < 256 → w % 256 ≡ a
+low_byte w a b e h = omega (arith, e, h)
+
+high_byte : (w a b : ℕ) → w ≡ a + b * 256 → a < 256 → w / 256 ≡ b
+high_byte w a b e h = omega (arith, e, h)
+
+pub read_all : (l : Lines) (src : List ℕ) (f luma u v n : ℕ) (lumas chromas was block : List ℕ) → ((i : ℕ) → get_or src i 0 < 256)
+    → Gathered src luma (luma + luma_gap f) (luma_step f) n lumas → Gathered src u v (chroma_step f) n chromas → Coloured l lumas chromas n was block
+    → PairsRead l src f luma u v n was block
+read_all l src f luma u v n lumas chromas was block small g h c = record {
+  firsts = λ k b. c.firsts k b ∙ (λ i. word_on l (low_byte _ _ _ (g.words k b) (small (luma + k * luma_step f)) i) ((uv k b).0 i) ((uv k b).1 i));
+  seconds = λ k b. c.seconds k b ∙ (λ i. word_on l (high_byte _ _ _ (g.words k b) (small (luma + k * luma_step f)) i) ((uv k b).0 i) ((uv k b).1 i));
+  others = c.others;
+}
+  where
+    uv : (k : ℕ) → k < n → (get_or chromas k 0 % 256 ≡ get_or src (u + k * chroma_step f) 0) × (get_or chromas k 0 / 256 ≡ get_or src (v + k * chroma_step f) 0)
+    uv k b = (low_byte _ _ _ (h.words k b) (small (u + k * chroma_step f)), high_byte _ _ _ (h.words k b) (small (u + k * chroma_step f)))
+
+-- ---- the bytes of a word that was read
+-- a number of at most m bytes
+number_lt_at : (l : List ℕ) (m : ℕ) → length l ≤ m → Small l → number l < 2 ^ (m * 8)
+number_lt_at l m h s = lt_of_lt_of_le (number_lt l s) (pow-le-pow_right {n = 2} (lit< tt) (omega (arith, h)))
+
+-- byte i of the number of m bytes from place at on
+pub byte_read : (m at i : ℕ) (src : List ℕ) → Small src → i < m → byte_at (number (take m (drop at src))) i ≡ get_or src (at + i) 0
+byte_read m at i src s h = number_byte (take m (drop at src)) (small_take m (drop at src) (small_drop at src s)) i ∙ get_or-take m (drop at src) i 0 h ∙ get_or-drop at src i 0
+
+-- bytes p and p + 2 of a macropixel
+pub packed_read : (at p : ℕ) (src : List ℕ) → Small src → p ≤ 1 → two_bytes (number (take 4 (drop at src))) p ≡ get_or src (at + p) 0 + get_or src (at + p + 2) 0 * 256
+unfolding two_bytes
+packed_read at p src s h =
+    ap₂ (λ x y. x + y * 256) (byte_read 4 at p src s (omega (arith, h)))
+    (byte_read 4 at (p + 2) src s (omega (arith, h)) ∙ ap (λ k. get_or src k 0) (omega arith))
+
+-- two bytes in a row
+pub words_read : (at : ℕ) (src : List ℕ) → Small src → number (take 2 (drop at src)) ≡ get_or src at 0 + get_or src (at + 1) 0 * 256
+words_read at src s =
+    let w = number (take 2 (drop at src)) in
+    let few : w < 65536 = number_lt_at (take 2 (drop at src)) 2 (omega (arith, length-take 2 (drop at src))) (small_take 2 (drop at src) (small_drop at src s)) in
+    let low : w % 256 ≡ get_or src at 0 = ap (λ k. k % 256) (sym (div-one w)) ∙ byte_read 2 at 0 src s (omega arith) ∙ ap (λ k. get_or src k 0) (add-zero at) in
+    let high : w / 256 % 256 ≡ get_or src (at + 1) 0 = byte_read 2 at 1 src s (omega arith) in
+    omega (arith, few, low, high)
+
+-- ---- the steps of each format
+pub record Steps (f luma gap chroma : ℕ) : Type 0 where
+  pub luma_is : luma_step f ≡ luma
+  pub gap_is : luma_gap f ≡ gap
+  pub chroma_is : chroma_step f ≡ chroma
+
+pub yuy2_steps : (f : ℕ) → f ≡ YUY2 → Steps f 4 2 4
+unfolding luma_step luma_gap chroma_step is_packed_yuv
+yuy2_steps f e = subst (λ g. Steps g 4 2 4) (sym e) (record { luma_is = refl; gap_is = refl; chroma_is = refl })
+
+pub uyvy_steps : (f : ℕ) → f ≡ UYVY → Steps f 4 2 4
+unfolding luma_step luma_gap chroma_step is_packed_yuv
+uyvy_steps f e = subst (λ g. Steps g 4 2 4) (sym e) (record { luma_is = refl; gap_is = refl; chroma_is = refl })
+
+pub nv12_steps : (f : ℕ) → f ≡ NV12 → Steps f 2 1 2
+unfolding luma_step luma_gap chroma_step is_packed_yuv
+nv12_steps f e = subst (λ g. Steps g 2 1 2) (sym e) (record { luma_is = refl; gap_is = refl; chroma_is = refl })
+
+pub yv12_steps : (f : ℕ) → f ≡ YV12 → Steps f 2 1 1
+unfolding luma_step luma_gap chroma_step is_packed_yuv
+yv12_steps f e = subst (λ g. Steps g 2 1 1) (sym e) (record { luma_is = refl; gap_is = refl; chroma_is = refl })
+
+-- a format of YUV that is not packed
+pub planar_left : (f : ℕ) → is_yuv f ≡ true → (f ≡ YUY2 → ⊥) → (f ≡ UYVY → ⊥) → (f ≡ NV12) ⊎ (f ≡ YV12)
+unfolding is_packed_yuv is_planar_yuv
+planar_left f h a b = go (eqb f YUY2) (eqb f UYVY) (eqb f NV12) (eqb f YV12) refl refl refl refl h
+  where
+    go : (p q r s : Bool) → eqb f YUY2 ≡ p → eqb f UYVY ≡ q → eqb f NV12 ≡ r → eqb f YV12 ≡ s → (elim p [ true ↦ true | false ↦ elim q [ true ↦ true | false ↦ false ] ] || elim r [ true ↦ true | false ↦ elim s [ true ↦ true | false ↦ false ] ]) ≡ true → (f ≡ NV12) ⊎ (f ≡ YV12)
+    go true q r s e₁ e₂ e₃ e₄ k = absurd (a (eqb-true f YUY2 e₁))
+    go false true r s e₁ e₂ e₃ e₄ k = absurd (b (eqb-true f UYVY e₂))
+    go false false true s e₁ e₂ e₃ e₄ k = inl (eqb-true f NV12 e₃)
+    go false false false true e₁ e₂ e₃ e₄ k = inr (eqb-true f YV12 e₄)
+    go false false false false e₁ e₂ e₃ e₄ k = absurd (false≢true k)
+
+-- its lumas lie in a row
+pub planar_lumas : (f : ℕ) → is_yuv f ≡ true → (f ≡ YUY2 → ⊥) → (f ≡ UYVY → ⊥) → (luma_step f ≡ 2) × (luma_gap f ≡ 1)
+planar_lumas f h a b =
+    ⊎_elim (λ e. ((nv12_steps f e).luma_is, (nv12_steps f e).gap_is)) (λ e. ((yv12_steps f e).luma_is, (yv12_steps f e).gap_is)) (planar_left f h a b)
+
+-- the one that is left
+pub yv12_left : (f : ℕ) → is_yuv f ≡ true → (f ≡ YUY2 → ⊥) → (f ≡ UYVY → ⊥) → (f ≡ NV12 → ⊥) → f ≡ YV12
+yv12_left f h a b c = ⊎_elim (λ e. absurd (c e)) (λ e. e) (planar_left f h a b)
+
+-- ---- what an arm gathers
+pub gathered_at : {src out : List ℕ} {a b s a' b' s' n : ℕ} → a ≡ a' → b ≡ b' → s ≡ s' → Gathered src a b s n out → Gathered src a' b' s' n out
+gathered_at {src = src} e f g h = record { words = λ k l. h.words k l ∙ (λ i. get_or src (e i + k * g i) 0 + get_or src (f i + k * g i) 0 * 256) }
+
+-- ---- the room of an arm
+module _ {len f luma u v n a g c : ℕ} (s : Steps f a g c) (r : PairsIn len f luma u v n) where
+  -- a pair's last byte, by its second luma and by its V
+  pub luma_last : (k : ℕ) → k < n → luma + g + k * a < len
+  luma_last k h = let e : k * luma_step f ≡ k * a = ap (λ m. k * m) s.luma_is in omega (arith, (r k h).lumas, e, s.gap_is)
+
+  pub u_last : (k : ℕ) → k < n → u + k * c < len
+  u_last k h = let e : k * chroma_step f ≡ k * c = ap (λ m. k * m) s.chroma_is in omega (arith, (r k h).us, e)
+
+  pub v_last : (k : ℕ) → k < n → v + k * c < len
+  v_last k h = let e : k * chroma_step f ≡ k * c = ap (λ m. k * m) s.chroma_is in omega (arith, (r k h).vs, e)

@@ -1,0 +1,26 @@
+-- Every part of a byte by bt601 is small enough to be added in 32 bits. Assumes nothing.
+use mathlib.Core.Path.{sym, subst}
+use Prim.Native.Nat.{ℕ, ◌<◌, ◌≤◌}
+use lib.Dec.{lit≤}
+use lib.IntN.{ℤ}
+use Rattle.yuv_sets.specs.Sets.{bt601}
+use Rattle.stretch_rect.specs.Yuv.{luma_part, chroma_part}
+use Rattle.yuv_parts.specs.Parts.{PartSize}
+use Rattle.yuv_parts.specs.Lines.{luma_base_of, chroma_base_of, luma_line, chroma_line, luma_base_small, chroma_base_small, line_small}
+
+-- the scaled luma
+abbrev pub luma_rule : ℕ → ℤ
+luma_rule = luma_part bt601.luma_offset bt601.luma_gain
+
+-- the scaled chroma by one gain
+abbrev pub chroma_rule : (gain : ℕ) → ℕ → ℤ
+chroma_rule = chroma_part bt601.chroma_centre
+
+pub luma_size : (y : ℕ) → y < 256 → PartSize (luma_rule y)
+luma_size y h =
+    subst PartSize (sym (luma_line 1052836 76284 y))
+    (line_small 76284 (luma_base_of 1052836 76284) y h (lit≤ tt) (luma_base_small 1052836 76284 (lit≤ tt) (lit≤ tt)))
+
+pub chroma_size : (gain c : ℕ) → gain ≤ 262143 → c < 256 → PartSize (chroma_rule gain c)
+chroma_size g c hg h =
+    subst PartSize (sym (chroma_line 255 g c)) (line_small g (chroma_base_of 255 g) c h hg (chroma_base_small 255 g (lit≤ tt) hg))

@@ -1,0 +1,37 @@
+-- A run of texels of a row, and that runs make up a row. Assumes nothing.
+use Rattle.std.specs.Prelude.{◌≡◌, List, ℕ, ◌+◌, ◌*◌, ◌-◌, ◌≤◌}
+use Rattle.std.proofs.Common.{sym, ap, ◌∙◌, zero-add, add-mul, mul-le-mul_right, arith}
+use Rattle.words.specs.Iterate.{iterate, iterate_add, iterate_same}
+use Rattle.formats.specs.Table.{bytes_of}
+use Rattle.places.specs.Places.{texel_start}
+use Rattle.yuv_sets.specs.declared.YuvSet.{YuvSet}
+use Rattle.convert_reply.specs.declared.ConvertRegion.{ConvertRegion}
+use Rattle.regions.specs.Regions.{to_at, written, row_written}
+use Rattle.regions.specs.Rows.{RowFits}
+
+-- count texels written, from column first of the row on
+unfoldable pub run_written : YuvSet → (src : List ℕ) (s d : ℕ) → ConvertRegion → (z row first count : ℕ) → List ℕ → List ℕ
+run_written numbers src s d r z row first count = iterate (λ k. written numbers src s d r z row (first + k)) count
+
+-- three runs that follow one another make up the row
+pub runs_row : (numbers : YuvSet) (src : List ℕ) (s d : ℕ) (r : ConvertRegion) (z row a b c : ℕ) (l : List ℕ) → a + b + c ≡ r.width
+    → run_written numbers src s d r z row (a + b) c (run_written numbers src s d r z row a b (run_written numbers src s d r z row 0 a l)) ≡ row_written numbers src s d r z row l
+unfolding run_written row_written
+runs_row numbers src s d r z row a b c l e =
+    ap (λ m. iterate (λ k. w (a + b + k)) c (iterate (λ k. w (a + k)) b m)) (iterate_same (λ k. w (0 + k)) w a l (λ k h x. ap (λ j. w j x) (zero-add k)))
+    ∙ ap (iterate (λ k. w (a + b + k)) c) (sym (iterate_add w a b l))
+    ∙ sym (iterate_add w (a + b) c l)
+    ∙ ap (λ n. iterate w n l) e
+  where
+    w : ℕ → List ℕ → List ℕ
+    w = written numbers src s d r z row
+
+-- a column of the row, or the one behind its last, starts within the destination
+pub run_room : (n m s d : ℕ) (r : ConvertRegion) (z row first : ℕ) → RowFits n m s d r z row → first ≤ r.width
+    → texel_start r.dst_pitch r.dst_slice_pitch (bytes_of d) z (r.dst_y + row) (r.dst_x + first) ≤ m
+unfolding to_at texel_start
+run_room n m s d r z row first fits h =
+    let last = r.width - 1 in
+    let one : (r.dst_x + last + 1) * bytes_of d ≡ (r.dst_x + last) * bytes_of d + 1 * bytes_of d = add-mul (r.dst_x + last) 1 (bytes_of d) in
+    let less : (r.dst_x + first) * bytes_of d ≤ (r.dst_x + last + 1) * bytes_of d = mul-le-mul_right (bytes_of d) (omega (arith, h, fits.rows.0)) in
+    omega (arith, fits.destination last (omega (arith, fits.rows.0)), one, less)
