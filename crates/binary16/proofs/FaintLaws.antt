@@ -2,9 +2,9 @@
 use Rattle.std.specs.Prelude.{◌≡◌, refl, Bool, true, false, ◌&&◌, ℕ, ◌+◌, ◌*◌, ◌/◌, ◌^◌, ◌<◌, T, ltb, Float}
 use Rattle.std.proofs.Common.{sym, ap, ◌∙◌, subst, add-zero, arith, ltb-true, ltb-false}
 use Rattle.std.specs.Float.{nan, inf, fin, binary32}
-use Rattle.std.specs.Float.Ieee.{up, down, size, of_bits}
+use Rattle.std.specs.Float.Ieee.{up, down, of_bits}
 use Rattle.words.specs.Tests.{pick, and_left, and_right}
-use Rattle.binary16.specs.Half.{nearest_half, magnitude_code, code_of, half_of}
+use Rattle.binary16.specs.Half.{magnitude_code, code_of, half_of}
 use Rattle.binary16.specs.Patterns.{magnitude_zero, magnitude_one}
 use Rattle.binary16.specs.Faint.{below_unit, above_half, faint, original_half}
 

@@ -10,7 +10,7 @@ use Rattle.std.specs.Float.Ieee.Nearest.{closest}
 use Rattle.words.specs.Tests.{pick, split}
 use Rattle.channels.specs.Nearest.{apart, NearestEven}
 use Rattle.channels.specs.Even.{rounds, closest_even}
-use Rattle.binary16.specs.Units.{units_of, units_fields, units_lt}
+use Rattle.binary16.specs.Units.{units_fields, units_lt}
 use Rattle.binary16.specs.Half.{half_units, largest, GivesWay, NearestHalf, overflow, OfMagnitude, CodeOf, HalfOf, nearest_half, magnitude_code, code_of, half_of}
 
 -- ---- codes that share the exponent x: the code x * 1024 + i stands for i * 2^x, from i = 1024 to 2048, and below too where x is 0

@@ -1,12 +1,10 @@
 -- Where the code differs from the original's: magnitudes above 2^-25 and below 2^-24, which are nearest to 2^-24 and of which the original makes zeros.
 -- Assumes nothing.
-use Rattle.std.specs.Prelude.{◌≡◌, refl, Bool, true, false, ◌&&◌, ℕ, ◌+◌, ◌*◌, ◌/◌, ◌^◌, ◌<◌, T, ltb, Float}
-use Rattle.std.proofs.Common.{sym, ap, ◌∙◌, subst, add-zero, arith, ltb-true, ltb-false}
+use Rattle.std.specs.Prelude.{◌≡◌, refl, Bool, true, false, ◌&&◌, ℕ, ◌*◌, ◌/◌, ◌^◌, ltb, Float}
 use Rattle.std.specs.Float.{nan, inf, fin, binary32}
 use Rattle.std.specs.Float.Ieee.{up, down, size, of_bits}
-use Rattle.words.specs.Tests.{pick, and_left, and_right}
-use Rattle.binary16.specs.Half.{nearest_half, magnitude_code, code_of, half_of}
-use Rattle.binary16.specs.Patterns.{magnitude_zero, magnitude_one}
+use Rattle.words.specs.Tests.{pick}
+use Rattle.binary16.specs.Half.{nearest_half, magnitude_code, half_of}
 
 -- a magnitude below 2^-24
 abbrev pub below_unit : Float → Bool

@@ -1,17 +1,12 @@
 -- Binary32 as binary16: which code is meant, the number that computes it, and the law that joins the two. Magnitudes are fractions n / d in units of
 -- 2^-24, binary16's smallest positive number. Assumes nothing.
-use Rattle.std.specs.Prelude.{◌≡◌, refl, Bool, true, false, ◌⊎◌, ℕ, suc, ◌+◌, ◌*◌, ◌-◌, ◌/◌, ◌%◌, ◌^◌, ◌≤◌, ◌<◌, leb, Float}
-use Rattle.std.proofs.Common.{sym, ap, ap₂, ◌∙◌, subst, inl, inr, le_trans, le_of_eq, le_of_lt, lt_trans, lt_irrefl, lt_of_lt_of_le, eq-or-lt_of_le, mul-pos, mul_comm, mul_assoc, mul-one, mul-le-mul_right, mul-lt-mul_of_pos_right, suc-mul, div-lt_iff_lt-mul, le-div_iff_mul-le, div-add-mod', arith, lit<, lit≤, pow-add, pow_pos, pow_mono, leb-true, leb-false}
-use Rattle.std.proofs.Math.Arith.{digits_div, digits_mod}
+use Rattle.std.specs.Prelude.{◌≡◌, ◌⊎◌, ℕ, ◌+◌, ◌*◌, ◌-◌, ◌/◌, ◌%◌, ◌^◌, ◌≤◌, ◌<◌, leb, Float}
 use Rattle.std.specs.Float.{nan, inf, fin, binary32}
 use Rattle.std.specs.Float.Ieee.{up, down, size, of_bits}
-use Rattle.std.specs.Float.Ieee.Digits.{size-lt, size_reaches}
-use Rattle.std.specs.Float.Ieee.Fits.{down_pos}
 use Rattle.std.specs.Float.Ieee.Nearest.{closest}
-use Rattle.words.specs.Tests.{pick, split}
-use Rattle.channels.specs.Nearest.{apart, NearestEven}
-use Rattle.channels.specs.Even.{rounds, closest_even}
-use Rattle.binary16.specs.Units.{units_of, units_fields, units_lt}
+use Rattle.words.specs.Tests.{pick}
+use Rattle.channels.specs.Nearest.{apart}
+use Rattle.binary16.specs.Units.{units_of}
 
 -- the number of the binary16 code j without a sign, in units of 2^-24: its fraction has ten digits
 abbrev pub half_units : ℕ → ℕ

@@ -1,12 +1,10 @@
 -- Laws on what specs/Exact.antt defines, which rest on laws there. Assumes nothing.
-use Rattle.std.specs.Prelude.{◌≡◌, ℕ, ◌*◌, ◌-◌, ◌^◌, ◌≤◌, ◌<◌, ltb, Float}
+use Rattle.std.specs.Prelude.{◌≡◌, ℕ, ◌*◌, ◌-◌, ◌^◌, ◌≤◌, ◌<◌}
 use Rattle.std.proofs.Math.Path.{refl}
-use Rattle.std.proofs.Common.{inl, inr, arith, le_of_lt, mul_assoc, pow_mono, lt-ltb, le-ltb}
-use Rattle.words.specs.Tests.{pick, split}
-use Rattle.channels.specs.Fractions.{Fraction, ◌over◌, Near, whole_near, near_sym}
+use Rattle.std.proofs.Common.{inl, inr, arith, le_of_lt, mul_assoc, lt-ltb, le-ltb}
+use Rattle.words.specs.Tests.{split}
+use Rattle.channels.specs.Fractions.{◌over◌, Near, whole_near, near_sym}
 use Rattle.channels.specs.Expansion.{expanded, truncated, expands, truncates}
-use Rattle.channels.specs.Nearest.{rounded, rounded_below, rounded_above}
-use Rattle.channels.specs.Floats.{clamped}
 use Rattle.channels.specs.Exact.{code_value, not_negative, ones_pos}
 
 -- a code with a sign is at most 2^(n-1) - 1

@@ -1,11 +1,9 @@
 -- Exact values of channels, in 255ths of full scale, and how near each way of reading or writing a channel comes to them.
 -- Assumes nothing.
-use Rattle.std.specs.Prelude.{◌≡◌, ℕ, ◌*◌, ◌-◌, ◌^◌, ◌≤◌, ◌<◌, ltb, Float}
-use Rattle.std.proofs.Math.Path.{refl}
-use Rattle.std.proofs.Common.{inl, inr, arith, le_of_lt, mul_assoc, pow_mono, lt-ltb, le-ltb}
-use Rattle.words.specs.Tests.{pick, split}
-use Rattle.channels.specs.Fractions.{Fraction, ◌over◌, Near, whole_near, near_sym}
-use Rattle.channels.specs.Expansion.{expanded, truncated, expands, truncates}
+use Rattle.std.specs.Prelude.{ℕ, ◌*◌, ◌-◌, ◌^◌, ◌≤◌, ◌<◌, ltb, Float}
+use Rattle.std.proofs.Common.{arith, pow_mono}
+use Rattle.words.specs.Tests.{pick}
+use Rattle.channels.specs.Fractions.{Fraction, ◌over◌, Near, whole_near}
 use Rattle.channels.specs.Nearest.{rounded, rounded_below, rounded_above}
 use Rattle.channels.specs.Floats.{clamped}
 

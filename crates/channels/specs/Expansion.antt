@@ -2,10 +2,8 @@
 -- (document 01 says that a channel opens and closes).
 -- Assumes nothing.
 use Rattle.std.specs.Prelude.{◌≡◌, Bool, ℕ, zero, suc, ◌+◌, ◌*◌, ◌-◌, ◌/◌, ◌%◌, ◌^◌, ◌≤◌, ◌<◌, T, eqb, ltb}
-use Rattle.std.proofs.Common.{sym, ap, ap₂, ◌∙◌, subst, inl, inr, arith, not-suc-le-zero, add-mul, mul-add, mul-one, mul_assoc, mul_comm, mul_right_comm, mul-le-mul_left, mul-le-mul_right, mod-lt, div-add-mod', pow-add, pow_pos, shr_lt, eqb→eq, ltb→lt}
+use Rattle.std.proofs.Common.{sym, ap, ap₂, ◌∙◌, subst, arith, not-suc-le-zero, add-mul, mul-add, mul-one, mul_assoc, mul_comm, mul-le-mul_left, mul-le-mul_right, mod-lt, div-add-mod', pow-add, pow_pos, shr_lt, eqb→eq, ltb→lt}
 use Rattle.words.specs.Computed.{every_below, below_at}
-use Rattle.words.specs.Tests.{split}
-use Rattle.channels.specs.Nearest.{step}
 
 -- v, again n bits lower, and so on, m times over
 abbrev pub repeated : ℕ → ℕ → ℕ → ℕ

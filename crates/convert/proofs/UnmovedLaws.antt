@@ -1,14 +1,11 @@
 -- Laws on what specs/Unmoved.antt defines, which rest on laws there. Assumes nothing.
-use Rattle.std.specs.Prelude.{◌≡◌, refl, Bool, false, not, List, [], ◌∷◌, ℕ, ◌+◌, ◌*◌, ◌/◌, ◌^◌, ◌<◌}
+use Rattle.std.specs.Prelude.{◌≡◌, refl, List, [], ◌∷◌, ℕ, ◌+◌, ◌*◌, ◌/◌, ◌^◌, ◌<◌}
 use Rattle.std.proofs.Common.{ap₂, mod-lt, lit<}
 use Rattle.std.specs.Float.{binary32}
-use Rattle.std.specs.Float.Ieee.{div, of_int, to_bits, of_bits}
-use Rattle.std.specs.Float.Ieee.Bits.{is_false}
-use Rattle.words.specs.Computed.{below_at}
+use Rattle.std.specs.Float.Ieee.{to_bits}
 use Rattle.formats.specs.Lanes.{Channel, red, green, blue, alpha, luminance, depth, stencil, padding, Kind, unsigned, signed, float16, float32, ignored, Part, bits, packed}
 use Rattle.formats.specs.Table.{parts_of}
 use Rattle.channels.specs.Luminance.{luminance_byte}
-use Rattle.binary16.specs.Faint.{faint, original_half}
 use Rattle.binary16.proofs.FaintLaws.{elsewhere}
 use Rattle.colours.specs.Color.{byte_of, unorm_of}
 use Rattle.colours.specs.LaneCodes.{lane_code}

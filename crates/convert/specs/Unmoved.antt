@@ -1,18 +1,13 @@
 -- Fills are the original's in their binary16 lanes too: no channel/255 lies in the interval where the two have different codes. Assumes nothing.
-use Rattle.std.specs.Prelude.{◌≡◌, refl, Bool, false, not, List, [], ◌∷◌, ℕ, ◌+◌, ◌*◌, ◌/◌, ◌^◌, ◌<◌}
-use Rattle.std.proofs.Common.{ap₂, mod-lt, lit<}
+use Rattle.std.specs.Prelude.{◌≡◌, Bool, false, not, ℕ, ◌<◌}
 use Rattle.std.specs.Float.{binary32}
 use Rattle.std.specs.Float.Ieee.{div, of_int, to_bits, of_bits}
 use Rattle.std.specs.Float.Ieee.Bits.{is_false}
 use Rattle.words.specs.Computed.{below_at}
-use Rattle.formats.specs.Lanes.{Channel, red, green, blue, alpha, luminance, depth, stencil, padding, Kind, unsigned, signed, float16, float32, ignored, Part, bits, packed}
-use Rattle.formats.specs.Table.{parts_of}
-use Rattle.channels.specs.Luminance.{luminance_byte}
+use Rattle.formats.specs.Lanes.{Kind, unsigned, signed, float16, float32, ignored}
 use Rattle.binary16.specs.Faint.{faint, original_half}
-use Rattle.binary16.proofs.FaintLaws.{elsewhere}
-use Rattle.colours.specs.Color.{byte_of, unorm_of}
+use Rattle.colours.specs.Color.{unorm_of}
 use Rattle.colours.specs.LaneCodes.{lane_code}
-use Rattle.convert.specs.Fill.{word_of}
 
 -- the pattern of channel/255 is none of the interval's: computed for each byte
 abbrev apart_test : ℕ → Bool

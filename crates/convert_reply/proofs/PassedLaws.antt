@@ -1,19 +1,14 @@
 -- Laws on what specs/Passed.antt defines, which rest on laws there. Assumes nothing.
-use Rattle.std.specs.Prelude.{◌≡◌, refl, Bool, true, false, not, ◌&&◌, ◌||◌, List, ℕ, ◌<◌, eqb}
-use Rattle.std.proofs.Common.{sym, ap, ◌∙◌, zero-le, arith, eqb-true, eq-eqb}
-use Rattle.std.proofs.lemmas.Bool.{false≢true}
-use Rattle.std.proofs.Math.Arith.{lt_of_le-ne}
+use Rattle.std.specs.Prelude.{◌≡◌, false, not, ℕ}
+use Rattle.std.proofs.Common.{sym, ◌∙◌}
 use Rattle.words.specs.Tests.{pick}
-use Rattle.formats.specs.Codes.{A8R8G8B8}
-use Rattle.formats.specs.Classes.{is_convertible_rgb, is_packed_yuv, is_planar_yuv, is_yuv, is_argb_source, is_lane_source}
+use Rattle.formats.specs.Classes.{is_yuv}
 use Rattle.yuv_sets.specs.declared.YuvSet.{YuvSet}
-use Rattle.yuv_sets.specs.Sets.{is_legal, bt601}
+use Rattle.yuv_sets.specs.Sets.{bt601}
 use Rattle.yuv_sets.specs.Legal.{bt601_legal}
 use Rattle.convert_reply.specs.declared.ConvertRegion.{ConvertRegion}
-use Rattle.convert_reply.specs.declared.ConvertReply.{ConvertReply}
-use Rattle.convert_reply.specs.declared.ConvertReply.TheVariants.{Accepted, Unsupported, PlanarShape, SourceOutside, DestinationOutside, IllegalSet}
-use Rattle.places.specs.Places.{is_picture}
-use Rattle.convert_reply.specs.Replies.{can_convert, can_convert_update, bad_planar_shape, illegal_set, is_empty, source_inside, destination_inside, reply_to, reply_number, if_accepted}
+use Rattle.convert_reply.specs.declared.ConvertReply.TheVariants.{Accepted, Unsupported, PlanarShape, SourceOutside, DestinationOutside}
+use Rattle.convert_reply.specs.Replies.{can_convert, bad_planar_shape, is_empty, source_inside, destination_inside, reply_to}
 use Rattle.convert_reply.specs.Passed.{legal_fits, other_fits, as_before}
 
 -- so is the reply by bt601

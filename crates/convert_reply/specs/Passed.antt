@@ -7,8 +7,7 @@ use Rattle.words.specs.Tests.{pick}
 use Rattle.formats.specs.Codes.{A8R8G8B8}
 use Rattle.formats.specs.Classes.{is_convertible_rgb, is_packed_yuv, is_planar_yuv, is_yuv, is_argb_source, is_lane_source}
 use Rattle.yuv_sets.specs.declared.YuvSet.{YuvSet}
-use Rattle.yuv_sets.specs.Sets.{is_legal, bt601}
-use Rattle.yuv_sets.specs.Legal.{bt601_legal}
+use Rattle.yuv_sets.specs.Sets.{is_legal}
 use Rattle.convert_reply.specs.declared.ConvertRegion.{ConvertRegion}
 use Rattle.convert_reply.specs.declared.ConvertReply.{ConvertReply}
 use Rattle.convert_reply.specs.declared.ConvertReply.TheVariants.{Accepted, Unsupported, PlanarShape, SourceOutside, DestinationOutside, IllegalSet}

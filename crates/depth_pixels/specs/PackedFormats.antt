@@ -2,14 +2,14 @@
 -- own code and stencil gives its word back where the format has no X.
 -- Assumes nothing.
 use Rattle.std.specs.Prelude.{◌≡◌, refl, Bool, true, false, ℕ, ◌+◌, ◌*◌, ◌/◌, ◌%◌, ◌^◌, ◌≤◌, ◌<◌, eqb}
-use Rattle.std.proofs.Common.{sym, subst, true≢false, ⊎_elim, arith, eqb-true, ne_eqb}
+use Rattle.std.proofs.Common.{sym, true≢false, arith, eqb-true, ne_eqb}
 use Rattle.formats.specs.Codes as codes
 use Rattle.formats.specs.Lanes.{depth}
 use Rattle.formats.specs.Table.{parts_of, lane_of, bytes_of}
 use Rattle.formats.specs.Packing.{reads, packed_lt}
 use Rattle.depth_pixels.specs.declared.PackedDepth.{PackedDepth}
 use Rattle.depth_pixels.specs.declared.PackedDepth.TheVariants.{D16, D24X8, D24S8}
-use Rattle.depth_pixels.specs.Pixels.{format_code, is_packed_depth, has_stencil, max_code, depth_code, stencil_code, part_code, pixel_word, KeepsAll}
+use Rattle.depth_pixels.specs.Pixels.{format_code, is_packed_depth, has_stencil, max_code, depth_code, stencil_code, part_code, pixel_word}
 
 -- ---- which codes
 pub packed_known : (d : PackedDepth) → is_packed_depth (format_code d) ≡ true

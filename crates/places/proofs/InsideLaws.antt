@@ -1,22 +1,11 @@
 -- Laws on what specs/Inside.antt defines, which rest on laws there. Assumes nothing.
-use Rattle.std.specs.Prelude.{◌≡◌, Bool, ◌&&◌, ◌||◌, leb, ltb, eqb, length, get_or, take, drop}
+use Rattle.std.specs.Prelude.{◌≡◌, Bool}
 use Rattle.std.proofs.Math.Path.{refl, sym}
-use Rattle.std.proofs.Common.{ap, ◌∙◌, not-suc-le-zero, drop-cons}
 use Rattle.std.proofs.Math.Bool.{true, false}
-use Rattle.std.proofs.lemmas.Bool.{false≢true}
-use mathlib.Core.List.{List, [], ◌∷◌}
-use Prim.Native.Nat.{ℕ, zero, suc, ◌+◌, ◌-◌, ◌/◌, ◌≤◌, ◌<◌}
+use Prim.Native.Nat.{ℕ, ◌+◌, ◌-◌, ◌<◌}
 use native.Mathlib.Omega.{arith}
-use Rattle.std.proofs.Math.Nat.{mul-le-mul_right}
-use borrow.Author.Tests.{leb-true, le-leb, lt-leb, ltb-true, ltb-false, lt-ltb}
-use Rattle.words.specs.Tests.{pick, and_left, and_right, and_out}
 use Rattle.words.specs.Iterate.{all, all_true, all_at, all_false}
-use Rattle.formats.specs.Codes.{YV12}
-use Rattle.formats.specs.Table.{bytes_of}
-use Rattle.formats.specs.Classes.{is_packed_yuv, is_planar_yuv, is_lane_source}
-use Rattle.planar_yuv.specs.Rules.{allowed}
-use Rattle.planar_yuv.specs.Offsets.{contains, contains_is, contains_yes, luma_offset_at, nv12_u, nv12_v, yv12_u, yv12_v, u_offset_at, v_offset_at}
-use Rattle.places.specs.Places.{is_picture, absent, offsets, run, texel_start, planar_places, places_at, all_below, places_in, bytes_from, texel_in, inside_all}
+use Rattle.places.specs.Places.{texel_in, inside_all}
 use Rattle.places.specs.Inside.{texel_lower}
 
 module _ (len f pitch slice_pitch x0 y0 width height depth : ℕ) where

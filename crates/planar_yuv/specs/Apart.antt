@@ -1,13 +1,8 @@
 -- The samples of a planar frame lie inside it, and no byte serves two of them: luma, U and V keep apart, a luma byte is one
 -- texel's, and a chroma byte is one 2 x 2 block's. Assumes nothing.
-use Rattle.std.specs.Prelude.{◌≡◌, Bool, true, false, ℕ, ◌+◌, ◌*◌, ◌/◌, ◌%◌, ◌<◌, eqb}
-use Rattle.std.proofs.Common.{sym, ap, ap₂, ◌∙◌, mul_comm, mul_assoc, mul-add}
-use native.Mathlib.Omega.{arith}
-use Rattle.std.proofs.Math.Arith.{digits_lt, digits_div, digits_mod}
-use Rattle.words.specs.Tests.{pick}
-use Rattle.formats.specs.Codes.{YV12}
-use Rattle.planar_yuv.specs.Rules.{chroma_rows_of, total_bytes_of}
-use Rattle.planar_yuv.specs.Offsets.{Inside, chroma_base_of, luma_offset_at, nv12_u, nv12_v, yv12_u, yv12_v, u_offset_at, v_offset_at}
+use Rattle.std.specs.Prelude.{◌≡◌, ℕ, ◌/◌, ◌<◌}
+use Rattle.planar_yuv.specs.Rules.{total_bytes_of}
+use Rattle.planar_yuv.specs.Offsets.{Inside, luma_offset_at}
 
 -- (x, y) and (x', y') lie in one block of 2 x 2 texels
 abbrev pub Block : (x y x' y' : ℕ) → Type 0

@@ -2,7 +2,7 @@
 use Rattle.std.specs.Prelude.{ℕ, ◌*◌, ◌≤◌, ◌<◌, ℤ}
 use Rattle.std.proofs.Common.{arith, lit<, lit≤}
 use Rattle.words.specs.Integers.{clamp_to}
-use Rattle.channels.specs.Fractions.{Fraction, ◌over◌, Near, whole_near}
+use Rattle.channels.specs.Fractions.{◌over◌, Near, whole_near}
 use Rattle.stretch_rect.specs.declared.Rgb.{Rgb}
 use Rattle.yuv_sets.specs.declared.YuvSet.{YuvSet}
 use Rattle.yuv_sets.specs.Sets.{bt601}

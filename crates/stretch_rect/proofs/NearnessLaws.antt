@@ -1,11 +1,7 @@
 -- Laws on what specs/Nearness.antt defines, which rest on laws there. Assumes nothing.
-use Rattle.std.specs.Prelude.{◌≡◌, refl, ℕ, ◌+◌, ◌*◌, ◌<◌, ◌≤◌, min, ℤ, pos, negsuc, ◌+ℤ◌, ◌-ℤ◌}
-use Rattle.std.proofs.Common.{sym, ap, ◌∙◌, ⊎_elim, arith, mul-le-mul_right, lit<}
-use Rattle.std.proofs.Math.Nat.{min-eq_left, min-eq_right}
-use Rattle.std.proofs.Math.Decide.{dec_le}
-use Rattle.words.specs.Integers.{floor_div, clamp_to, up, dn, up_pos, dn_pos, one_zero, sum, difference, floor_low, floor_high}
+use Rattle.std.specs.Prelude.{ℕ}
 use Rattle.yuv_sets.specs.declared.YuvSet.{YuvSet}
-use Rattle.stretch_rect.specs.Yuv.{set_unit, set_slack, nearest_whole, ByteNear, RgbNear, rgb_of, red_rounded, green_rounded, blue_rounded, red_exact, green_exact, blue_exact, luma_part, chroma_part, luma_exact, chroma_exact}
+use Rattle.stretch_rect.specs.Yuv.{set_unit, set_slack, RgbNear, rgb_of, red_rounded, green_rounded, blue_rounded, red_exact, green_exact, blue_exact, luma_part, chroma_part, luma_exact, chroma_exact}
 use Rattle.stretch_rect.specs.Nearness.{added_near, taken_near}
 
 -- THE GENERAL BOUND: at every set of numbers and all samples, each byte is within 1/2 + 1/16384 of what the set's own numbers define, clamped

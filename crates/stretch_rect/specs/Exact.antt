@@ -1,13 +1,9 @@
 -- A YUV texel's exact values as fractions, clamped to 0..255, and how near the colour lies to them, in quarters.
 -- Assumes nothing.
-use Rattle.std.specs.Prelude.{ℕ, ◌*◌, ◌≤◌, ◌<◌, ℤ}
-use Rattle.std.proofs.Common.{arith, lit<, lit≤}
+use Rattle.std.specs.Prelude.{ℕ, ◌*◌, ℤ}
 use Rattle.words.specs.Integers.{clamp_to}
-use Rattle.channels.specs.Fractions.{Fraction, ◌over◌, Near, whole_near}
+use Rattle.channels.specs.Fractions.{Fraction, ◌over◌, Near}
 use Rattle.stretch_rect.specs.declared.Rgb.{Rgb}
-use Rattle.yuv_sets.specs.declared.YuvSet.{YuvSet}
-use Rattle.yuv_sets.specs.Sets.{bt601}
-use Rattle.stretch_rect.specs.Yuv.{set_unit, decimal_unit, ByteNear, RgbNear, rgb_of, red_exact, green_exact, blue_exact, red_decimal, green_decimal, blue_decimal}
 
 -- z in parts of a unit, clamped to 0..255
 abbrev pub clamped_value : (unit : ℕ) → ℤ → Fraction

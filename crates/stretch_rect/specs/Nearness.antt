@@ -5,8 +5,7 @@ use Rattle.std.proofs.Common.{sym, ap, ◌∙◌, ⊎_elim, arith, mul-le-mul_ri
 use Rattle.std.proofs.Math.Nat.{min-eq_left, min-eq_right}
 use Rattle.std.proofs.Math.Decide.{dec_le}
 use Rattle.words.specs.Integers.{floor_div, clamp_to, up, dn, up_pos, dn_pos, one_zero, sum, difference, floor_low, floor_high}
-use Rattle.yuv_sets.specs.declared.YuvSet.{YuvSet}
-use Rattle.stretch_rect.specs.Yuv.{set_unit, set_slack, nearest_whole, ByteNear, RgbNear, rgb_of, red_rounded, green_rounded, blue_rounded, red_exact, green_exact, blue_exact, luma_part, chroma_part, luma_exact, chroma_exact}
+use Rattle.stretch_rect.specs.Yuv.{set_unit, set_slack, nearest_whole, ByteNear}
 
 pub clamp_is : (top : ℕ) (z : ℤ) → clamp_to top z ≡ min (up z) top
 unfolding clamp_to up

@@ -1,28 +1,19 @@
 -- Laws on what specs/Bounds.antt defines, which rest on laws there. Assumes nothing.
-use Rattle.std.specs.Prelude.{◌≡◌, refl, Bool, true, false, List, [], ◌∷◌, ℕ, ◌*◌, ◌-◌, ◌/◌, ◌^◌, ◌≤◌, ◌<◌, T, leb, eqb}
-use Rattle.std.proofs.Common.{sym, subst, arith, le_trans, mod-lt, mul-le-mul_left, pow_pos, pow_mono, leb→le, leb-true}
+use Rattle.std.specs.Prelude.{◌≡◌, true, ℕ, ◌≤◌}
+use Rattle.std.proofs.Common.{sym, subst, arith, le_trans}
 use Rattle.std.proofs.lemmas.Bool.{false≢true}
-use Rattle.std.proofs.Math.Pow.{le_ones}
-use Rattle.std.specs.Float.{binary32}
-use Rattle.std.specs.Float.Ieee.{of_bits}
-use Rattle.words.specs.Little.{number, number_bytes}
-use Rattle.words.specs.Tests.{pick}
-use Rattle.words.specs.Computed.{both, both_left, both_right}
-use Rattle.formats.specs.Lanes.{Channel, Channel-discrete, red, green, blue, alpha, luminance, depth, stencil, padding, Kind, unsigned, signed, float16, float32, ignored, Part, Lane, nowhere, at, bits, find, code_at, packed}
-use Rattle.formats.specs.Codes.{A8}
-use Rattle.formats.specs.Table.{parts_of, lane_of, bytes_of, by_table, lanes_filled}
-use Rattle.formats.specs.Classes.{rgb_formats, is_convertible_rgb}
-use Rattle.formats.specs.Listed.{listed_at}
-use Rattle.formats.specs.Packing.{Fit, Held, reads, packed_lt}
-use Rattle.channels.specs.Fractions.{◌over◌, Near, triangle, weaker, whole_near, mean_near}
-use Rattle.channels.specs.Expansion.{expanded, truncated, expands, truncates}
-use Rattle.channels.specs.Nearest.{rounded_le}
-use Rattle.channels.specs.Luminance.{luminance_of, luminance_near, luminance_byte}
-use Rattle.channels.specs.Floats.{clamped, bottom_pos, top_le}
-use Rattle.channels.specs.Exact.{code_value, not_negative, rounded_near}
-use Rattle.channels.proofs.ExactLaws.{signed_le, expanded_near, truncated_near}
+use Rattle.words.specs.Little.{number}
+use Rattle.formats.specs.Lanes.{Channel, red, green, blue, alpha, luminance, depth, stencil, padding, Lane, nowhere, at, bits}
+use Rattle.formats.specs.Table.{parts_of, lane_of}
+use Rattle.formats.specs.Classes.{is_convertible_rgb}
+use Rattle.formats.specs.Packing.{Held}
+use Rattle.channels.specs.Fractions.{Near, triangle, mean_near}
+use Rattle.channels.specs.Expansion.{truncated}
+use Rattle.channels.specs.Luminance.{luminance_of, luminance_near}
+use Rattle.channels.specs.Exact.{code_value}
+use Rattle.channels.proofs.ExactLaws.{truncated_near}
 use Rattle.texels.specs.declared.Texel.{Texel}
-use Rattle.texels.specs.Texels.{nearest_byte, code_byte, lane_byte, or_else, colour_of, missing_colour, decoded_of, byte_of, code_of, encoded_of, encoded_bytes, lane_value, Values, value_of, exact_of, Stands, quarters, is_colour, Holds}
+use Rattle.texels.specs.Texels.{colour_of, missing_colour, decoded_of, byte_of, code_of, encoded_of, encoded_bytes, Values, value_of, exact_of, Stands, quarters, is_colour, Holds}
 use Rattle.texels.specs.Bounds.{some_bit, Wide, Narrow, lane_wide, colour_wide, lane_narrow, lane_byte_lem, lane_near, missing_byte, channel_byte, encoded_holds, encoded_number}
 
 -- a texel that the lane table decodes

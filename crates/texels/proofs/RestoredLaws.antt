@@ -1,20 +1,18 @@
 -- Laws on what specs/Restored.antt defines, which rest on laws there. Assumes nothing.
-use Rattle.std.specs.Prelude.{◌≡◌, refl, Bool, true, false, ◌||◌, ℕ, ◌+◌, ◌*◌, ◌/◌, ◌%◌, ◌^◌, ◌≤◌, ◌<◌}
+use Rattle.std.specs.Prelude.{◌≡◌, refl, true, ◌||◌, ℕ, ◌≤◌}
 use Rattle.std.proofs.Math.Path.{ap}
-use Rattle.std.proofs.Common.{◌∙◌, subst, div-one, arith, le-leb}
+use Rattle.std.proofs.Common.{◌∙◌, subst}
 use Rattle.std.proofs.lemmas.Bool.{false≢true}
 use Rattle.std.proofs.Math.Dec.{T}
-use Rattle.formats.specs.Codes.{R8G8B8, A8R8G8B8, X8R8G8B8}
+use Rattle.formats.specs.Codes.{A8R8G8B8}
 use Rattle.formats.specs.Lanes.{Channel, red, green, blue, alpha, luminance, depth, stencil, padding, unsigned, signed, float16, float32, ignored, Lane, nowhere, at, bits, code_at}
 use Rattle.formats.specs.Table.{parts_of, lane_of}
-use Rattle.formats.specs.Classes.{rgb_formats, is_convertible_rgb}
+use Rattle.formats.specs.Classes.{is_convertible_rgb}
 use Rattle.formats.specs.Packing.{Held}
-use Rattle.formats.specs.Listed.{listed_at}
 use Rattle.channels.specs.Expansion.{expanded, truncated, expands}
 use Rattle.channels.specs.Luminance.{luminance_of}
 use Rattle.texels.specs.declared.Texel.{Texel}
-use Rattle.texels.specs.Texels.{code_byte, lane_byte, or_else, colour_of, missing_colour, decoded_of, byte_of, code_of, encoded_of, is_colour}
-use Rattle.texels.specs.Words.{expanded_eight}
+use Rattle.texels.specs.Texels.{lane_byte, or_else, colour_of, missing_colour, decoded_of, byte_of, code_of, encoded_of, is_colour}
 use Rattle.texels.specs.Bounds.{Wide, Narrow, lane_wide, lane_narrow, code_lt, channel_byte, encoded_holds}
 use Rattle.texels.proofs.BoundsLaws.{decoded_stands}
 use Rattle.texels.specs.Restored.{SameLane, plain, absent, absent_is, rgb_plain, alone, rgb_alone, narrow_byte, luminance_same, word_keeps}

@@ -1,8 +1,7 @@
 -- THE ERROR BOUND: whatever the source, each channel that an RGB destination stores lies near the source's exact value.
 -- Assumes nothing.
 use Rattle.std.specs.Prelude.{◌≡◌, refl, Bool, true, false, List, [], ◌∷◌, ℕ, ◌*◌, ◌-◌, ◌/◌, ◌^◌, ◌≤◌, ◌<◌, T, leb, eqb}
-use Rattle.std.proofs.Common.{sym, subst, arith, le_trans, mod-lt, mul-le-mul_left, pow_pos, pow_mono, leb→le, leb-true}
-use Rattle.std.proofs.lemmas.Bool.{false≢true}
+use Rattle.std.proofs.Common.{subst, arith, mod-lt, mul-le-mul_left, pow_pos, pow_mono, leb→le, leb-true}
 use Rattle.std.proofs.Math.Pow.{le_ones}
 use Rattle.std.specs.Float.{binary32}
 use Rattle.std.specs.Float.Ieee.{of_bits}
@@ -15,15 +14,15 @@ use Rattle.formats.specs.Table.{parts_of, lane_of, bytes_of, by_table, lanes_fil
 use Rattle.formats.specs.Classes.{rgb_formats, is_convertible_rgb}
 use Rattle.formats.specs.Listed.{listed_at}
 use Rattle.formats.specs.Packing.{Fit, Held, reads, packed_lt}
-use Rattle.channels.specs.Fractions.{◌over◌, Near, triangle, weaker, whole_near, mean_near}
-use Rattle.channels.specs.Expansion.{expanded, truncated, expands, truncates}
+use Rattle.channels.specs.Fractions.{◌over◌, Near, weaker, whole_near}
+use Rattle.channels.specs.Expansion.{expanded, expands, truncates}
 use Rattle.channels.specs.Nearest.{rounded_le}
-use Rattle.channels.specs.Luminance.{luminance_of, luminance_near, luminance_byte}
+use Rattle.channels.specs.Luminance.{luminance_byte}
 use Rattle.channels.specs.Floats.{clamped, bottom_pos, top_le}
 use Rattle.channels.specs.Exact.{code_value, not_negative, rounded_near}
-use Rattle.channels.proofs.ExactLaws.{signed_le, expanded_near, truncated_near}
+use Rattle.channels.proofs.ExactLaws.{signed_le, expanded_near}
 use Rattle.texels.specs.declared.Texel.{Texel}
-use Rattle.texels.specs.Texels.{nearest_byte, code_byte, lane_byte, or_else, colour_of, missing_colour, decoded_of, byte_of, code_of, encoded_of, encoded_bytes, lane_value, Values, value_of, exact_of, Stands, quarters, is_colour, Holds}
+use Rattle.texels.specs.Texels.{nearest_byte, code_byte, lane_byte, or_else, colour_of, missing_colour, byte_of, code_of, encoded_of, encoded_bytes, lane_value, Values, Stands}
 
 -- ---- every lane of the table has a width of at least one bit, two where it has a sign, and those of an RGB format at most eight
 abbrev least : Kind → ℕ

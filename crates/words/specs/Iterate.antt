@@ -1,8 +1,7 @@
 -- A loop's meaning: steps 0 to n - 1 applied in order, and a test of each number below n.
 -- Assumes nothing.
-use Rattle.std.specs.Prelude.{◌≡◌, refl, Bool, true, false, ◌&&◌, List, ℕ, zero, suc, ◌+◌, ◌*◌, ◌/◌, ◌%◌, ◌<◌, length}
-use Rattle.std.proofs.Common.{sym, ap, ap₂, ◌∙◌, subst, ⊎_elim, arith, not-suc-le-zero, add-suc, add-zero, zero-mul, suc-mul, add-one}
-use Rattle.std.proofs.Math.Arith.{digits_div, digits_mod}
+use Rattle.std.specs.Prelude.{◌≡◌, refl, Bool, true, false, ◌&&◌, ℕ, zero, suc, ◌+◌, ◌<◌}
+use Rattle.std.proofs.Common.{ap, ap₂, ◌∙◌, ⊎_elim, arith, not-suc-le-zero, add-suc, add-zero, add-one}
 use Rattle.words.specs.Tests.{and_left, and_right, and_out, lt_or_eq}
 
 -- from a, step 0, then step 1, up to step n - 1
