@@ -1,4 +1,4 @@
--- Laws on what specs/Faint.antt defines, which rest on laws there. Assumes nothing.
+-- Inside the interval the code is that of the smallest subnormal, with the sign, where the original has zero; elsewhere it is the original's. Assumes nothing.
 use Rattle.std.specs.Prelude.{◌≡◌, refl, Bool, true, false, ◌&&◌, ℕ, ◌+◌, ◌*◌, ◌/◌, ◌^◌, ◌<◌, T, ltb, Float}
 use Rattle.std.proofs.Common.{sym, ap, ◌∙◌, subst, add-zero, arith, ltb-true, ltb-false}
 use Rattle.std.specs.Float.{nan, inf, fin, binary32}

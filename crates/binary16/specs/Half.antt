@@ -1,4 +1,4 @@
--- Binary32 as binary16: which code is meant, the number that computes it, and the law that joins the two. Magnitudes are fractions n / d in units of
+-- Binary32 as binary16: which code is meant, and the number that computes it; proofs/HalfLaws has the law that joins the two. Magnitudes are fractions n / d in units of
 -- 2^-24, binary16's smallest positive number. Assumes nothing.
 use Rattle.std.specs.Prelude.{◌≡◌, ◌⊎◌, ℕ, ◌+◌, ◌*◌, ◌-◌, ◌/◌, ◌%◌, ◌^◌, ◌≤◌, ◌<◌, leb, Float}
 use Rattle.std.specs.Float.{nan, inf, fin, binary32}

@@ -1,4 +1,4 @@
--- Laws on what specs/Exact.antt defines, which rest on laws there. Assumes nothing.
+-- How near each way of reading or writing a channel comes to its exact value. Assumes nothing.
 use Rattle.std.specs.Prelude.{◌≡◌, ℕ, ◌*◌, ◌-◌, ◌^◌, ◌≤◌, ◌<◌}
 use Rattle.std.proofs.Math.Path.{refl}
 use Rattle.std.proofs.Common.{inl, inr, arith, le_of_lt, mul_assoc, lt-ltb, le-ltb}

@@ -1,4 +1,4 @@
--- Exact values of channels, in 255ths of full scale, and how near each way of reading or writing a channel comes to them.
+-- Exact values of channels, in 255ths of full scale; proofs/ExactLaws says how near each way of reading or writing a channel comes to them.
 -- Assumes nothing.
 use Rattle.std.specs.Prelude.{ℕ, ◌*◌, ◌-◌, ◌^◌, ◌≤◌, ◌<◌, ltb, Float}
 use Rattle.std.proofs.Common.{arith, pow_mono}

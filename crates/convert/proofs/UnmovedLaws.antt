@@ -1,4 +1,4 @@
--- Laws on what specs/Unmoved.antt defines, which rest on laws there. Assumes nothing.
+-- Fills are the original's in their binary16 lanes too. Assumes nothing.
 use Rattle.std.specs.Prelude.{◌≡◌, refl, List, [], ◌∷◌, ℕ, ◌+◌, ◌*◌, ◌/◌, ◌^◌, ◌<◌}
 use Rattle.std.proofs.Common.{ap₂, mod-lt, lit<}
 use Rattle.std.specs.Float.{binary32}

@@ -1,4 +1,4 @@
--- Fills are the original's in their binary16 lanes too: no channel/255 lies in the interval where the two have different codes. Assumes nothing.
+-- No channel/255 lies in the interval where binary16 codes differ from the original's; so fills are the original's too, as proofs/UnmovedLaws says. Assumes nothing.
 use Rattle.std.specs.Prelude.{◌≡◌, Bool, false, not, ℕ, ◌<◌}
 use Rattle.std.specs.Float.{binary32}
 use Rattle.std.specs.Float.Ieee.{div, of_int, to_bits, of_bits}

@@ -1,4 +1,4 @@
--- Laws on what specs/Passed.antt defines, which rest on laws there. Assumes nothing.
+-- Where a reply does not look at the set. Assumes nothing.
 use Rattle.std.specs.Prelude.{◌≡◌, false, not, ℕ}
 use Rattle.std.proofs.Common.{sym, ◌∙◌}
 use Rattle.words.specs.Tests.{pick}

@@ -1,4 +1,4 @@
--- Laws on what specs/PackedFormats.antt defines, which rest on laws there. Assumes nothing.
+-- Packing a pixel's own code and stencil gives its word back where the format has no X. Assumes nothing.
 use Rattle.std.specs.Prelude.{◌≡◌, ℕ, ◌*◌, ◌^◌, ◌<◌}
 use Rattle.std.proofs.Common.{sym, subst, ⊎_elim, arith}
 use Rattle.formats.specs.Codes as codes

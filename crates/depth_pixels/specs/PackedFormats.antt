@@ -1,5 +1,5 @@
--- The three packed depth formats, from the lane table: their sizes, their largest codes, what a word of theirs holds, and that packing a pixel's
--- own code and stencil gives its word back where the format has no X.
+-- The three packed depth formats, from the lane table: their sizes, their largest codes, and what a word of theirs holds. That packing a
+-- pixel's own code and stencil gives its word back where the format has no X is proved in proofs/PackedFormatsLaws.
 -- Assumes nothing.
 use Rattle.std.specs.Prelude.{◌≡◌, refl, Bool, true, false, ℕ, ◌+◌, ◌*◌, ◌/◌, ◌%◌, ◌^◌, ◌≤◌, ◌<◌, eqb}
 use Rattle.std.proofs.Common.{sym, true≢false, arith, eqb-true, ne_eqb}

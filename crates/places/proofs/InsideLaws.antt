@@ -1,4 +1,4 @@
--- Laws on what specs/Inside.antt defines, which rest on laws there. Assumes nothing.
+-- A region lies inside where its last texel does. Assumes nothing.
 use Rattle.std.specs.Prelude.{◌≡◌, Bool}
 use Rattle.std.proofs.Math.Path.{refl, sym}
 use Rattle.std.proofs.Math.Bool.{true, false}

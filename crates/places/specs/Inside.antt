@@ -1,4 +1,4 @@
--- A region lies inside where its last texel does: every offset of a texel is at most that of one further on.
+-- Every offset of a texel is at most that of one further on; so a region lies inside where its last texel does, as proofs/InsideLaws says.
 -- Assumes nothing.
 use Rattle.std.specs.Prelude.{◌≡◌, Bool, ◌&&◌, ◌||◌, leb, ltb, eqb, length, get_or, take, drop}
 use Rattle.std.proofs.Math.Path.{refl, sym}

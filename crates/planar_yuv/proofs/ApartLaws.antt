@@ -1,4 +1,4 @@
--- Laws on what specs/Apart.antt defines, which rest on laws there. Assumes nothing.
+-- The samples of a planar frame lie inside it, and no byte serves two of them. Assumes nothing.
 use Rattle.std.specs.Prelude.{◌≡◌, Bool, true, false, ℕ, ◌+◌, ◌*◌, ◌/◌, ◌%◌, ◌<◌, eqb}
 use Rattle.std.proofs.Common.{sym, ap, ap₂, ◌∙◌, mul_comm, mul_assoc, mul-add}
 use native.Mathlib.Omega.{arith}

@@ -1,5 +1,5 @@
--- The samples of a planar frame lie inside it, and no byte serves two of them: luma, U and V keep apart, a luma byte is one
--- texel's, and a chroma byte is one 2 x 2 block's. Assumes nothing.
+-- What it is that the samples of a planar frame lie inside it, and no byte serves two of them: luma, U and V keep apart, a luma byte is one
+-- texel's, and a chroma byte is one 2 x 2 block's. That both formats have it is proved in proofs/ApartLaws. Assumes nothing.
 use Rattle.std.specs.Prelude.{◌≡◌, ℕ, ◌/◌, ◌<◌}
 use Rattle.planar_yuv.specs.Rules.{total_bytes_of}
 use Rattle.planar_yuv.specs.Offsets.{Inside, luma_offset_at}

@@ -1,4 +1,4 @@
--- Laws on what specs/Exact.antt defines, which rest on laws there. Assumes nothing.
+-- How near the colour of a YUV texel lies to its exact values, in quarters. Assumes nothing.
 use Rattle.std.specs.Prelude.{ℕ, ◌*◌, ◌≤◌, ◌<◌, ℤ}
 use Rattle.std.proofs.Common.{arith, lit<, lit≤}
 use Rattle.words.specs.Integers.{clamp_to}

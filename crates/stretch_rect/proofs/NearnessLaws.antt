@@ -1,4 +1,4 @@
--- Laws on what specs/Nearness.antt defines, which rest on laws there. Assumes nothing.
+-- The bound of every set of numbers. Assumes nothing.
 use Rattle.std.specs.Prelude.{ℕ}
 use Rattle.yuv_sets.specs.declared.YuvSet.{YuvSet}
 use Rattle.stretch_rect.specs.Yuv.{set_unit, set_slack, RgbNear, rgb_of, red_rounded, green_rounded, blue_rounded, red_exact, green_exact, blue_exact, luma_part, chroma_part, luma_exact, chroma_exact}

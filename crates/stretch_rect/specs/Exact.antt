@@ -1,4 +1,4 @@
--- A YUV texel's exact values as fractions, clamped to 0..255, and how near the colour lies to them, in quarters.
+-- A YUV texel's exact values as fractions, clamped to 0..255, and what it is to lie near them; proofs/ExactLaws has it of every colour.
 -- Assumes nothing.
 use Rattle.std.specs.Prelude.{ℕ, ◌*◌, ℤ}
 use Rattle.words.specs.Integers.{clamp_to}

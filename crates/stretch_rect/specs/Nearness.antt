@@ -1,5 +1,5 @@
 -- How far a byte lies from what it is made of, for all integers: each part is rounded down once, and the sum is rounded to the
--- nearest. Assumes nothing.
+-- nearest. The bound of every set, by these, is in proofs/NearnessLaws. Assumes nothing.
 use Rattle.std.specs.Prelude.{◌≡◌, refl, ℕ, ◌+◌, ◌*◌, ◌<◌, ◌≤◌, min, ℤ, pos, negsuc, ◌+ℤ◌, ◌-ℤ◌}
 use Rattle.std.proofs.Common.{sym, ap, ◌∙◌, ⊎_elim, arith, mul-le-mul_right, lit<}
 use Rattle.std.proofs.Math.Nat.{min-eq_left, min-eq_right}

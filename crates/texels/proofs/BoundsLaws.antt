@@ -1,4 +1,4 @@
--- Laws on what specs/Bounds.antt defines, which rest on laws there. Assumes nothing.
+-- THE ERROR BOUND: whatever the source, each channel that an RGB destination stores lies near the source's exact value. Assumes nothing.
 use Rattle.std.specs.Prelude.{◌≡◌, true, ℕ, ◌≤◌}
 use Rattle.std.proofs.Common.{sym, subst, arith, le_trans}
 use Rattle.std.proofs.lemmas.Bool.{false≢true}

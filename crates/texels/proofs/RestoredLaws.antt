@@ -1,4 +1,4 @@
--- Laws on what specs/Restored.antt defines, which rest on laws there. Assumes nothing.
+-- Encoding what was decoded from the same RGB format restores every bit but X. Assumes nothing.
 use Rattle.std.specs.Prelude.{◌≡◌, refl, true, ◌||◌, ℕ, ◌≤◌}
 use Rattle.std.proofs.Math.Path.{ap}
 use Rattle.std.proofs.Common.{◌∙◌, subst}

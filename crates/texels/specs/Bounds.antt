@@ -1,4 +1,4 @@
--- THE ERROR BOUND: whatever the source, each channel that an RGB destination stores lies near the source's exact value.
+-- What the error bound of proofs/BoundsLaws rests on: widths of lanes, and how near a decoded byte lies to its exact value.
 -- Assumes nothing.
 use Rattle.std.specs.Prelude.{◌≡◌, refl, Bool, true, false, List, [], ◌∷◌, ℕ, ◌*◌, ◌-◌, ◌/◌, ◌^◌, ◌≤◌, ◌<◌, T, leb, eqb}
 use Rattle.std.proofs.Common.{subst, arith, mod-lt, mul-le-mul_left, pow_pos, pow_mono, leb→le, leb-true}

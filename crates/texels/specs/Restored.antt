@@ -1,4 +1,4 @@
--- Encoding what was decoded from the same RGB format restores every bit but X, and an A8R8G8B8 word keeps the texel that it was made of.
+-- An A8R8G8B8 word keeps the texel that it was made of; and what it is to restore a lane, which proofs/RestoredLaws proves of every RGB format.
 -- Assumes nothing.
 use Rattle.std.specs.Prelude.{◌≡◌, refl, Bool, true, false, ◌||◌, ℕ, ◌+◌, ◌*◌, ◌/◌, ◌%◌, ◌^◌, ◌≤◌, ◌<◌}
 use Rattle.std.proofs.Math.Path.{ap}
