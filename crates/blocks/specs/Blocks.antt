@@ -1,11 +1,12 @@
 -- What it is to read texels into a block of A8R8G8B8 words and to write the texels of such words, with the offset that is carried along,
 -- and the laws of one texel more.
 -- Assumes nothing.
-use Rattle.std.specs.Prelude.{◌≡◌, refl, List, ℕ, ◌+◌, ◌*◌, ◌-◌, ◌≤◌, ◌<◌, length, get_or, set, take, drop}
+use Rattle.std.specs.Prelude.{◌≡◌, refl, List, ℕ, ◌+◌, ◌*◌, ◌≤◌, ◌<◌, length, get_or, set, take, drop}
 use Rattle.std.proofs.Common.{sym, ap, ◌∙◌, subst, ⊎_elim, add-mul, mul-le-mul_right, arith, length-drop, get_or-set_same, get_or-set_other}
 use Rattle.std.proofs.lemmas.List.Edits.{sets}
 use Rattle.words.specs.Little.{number, number_split}
-use Rattle.words.specs.Iterate.{iterate, iterate_step}
+use Rattle.words.specs.Iterate.{iterate}
+use Rattle.words.proofs.IterateLaws.{iterate_step}
 use Rattle.words.specs.Tests.{lt_or_eq}
 use Rattle.formats.specs.Codes.{R8G8B8, A8R8G8B8, X8R8G8B8}
 use Rattle.formats.specs.Table.{parts_of, bytes_of}

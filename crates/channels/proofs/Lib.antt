@@ -1,2 +1,5 @@
--- What the proofs of several functions use.
+-- Laws that other crates cite, and what the proofs of several functions use.
 pub mod Shifts
+pub mod NearestLaws
+pub mod ExactLaws
+pub mod ExpansionLaws

@@ -2,10 +2,8 @@
 -- (document 01 says that a channel opens and closes).
 -- Assumes nothing.
 use Rattle.std.specs.Prelude.{◌≡◌, Bool, ℕ, zero, suc, ◌+◌, ◌*◌, ◌-◌, ◌/◌, ◌%◌, ◌^◌, ◌≤◌, ◌<◌, T, eqb, ltb}
-use Rattle.std.proofs.Common.{sym, ap, ap₂, ◌∙◌, subst, inl, inr, arith, not-suc-le-zero, add-mul, mul-add, mul-one, mul_assoc, mul_comm, mul_right_comm, mul-le-mul_left, mul-le-mul_right, mod-lt, div-add-mod', pow-add, pow_pos, shr_lt, eqb→eq, ltb→lt}
+use Rattle.std.proofs.Common.{sym, ap, ap₂, ◌∙◌, subst, arith, not-suc-le-zero, add-mul, mul-add, mul-one, mul_assoc, mul_comm, mul-le-mul_left, mul-le-mul_right, mod-lt, div-add-mod', pow-add, pow_pos, shr_lt, eqb→eq, ltb→lt}
 use Rattle.words.specs.Computed.{every_below, below_at}
-use Rattle.words.specs.Tests.{split}
-use Rattle.channels.specs.Nearest.{step}
 
 -- v, again n bits lower, and so on, m times over
 abbrev pub repeated : ℕ → ℕ → ℕ → ℕ
@@ -67,20 +65,6 @@ expands n l u k h = record {
   not_above = ltb→lt _ _ (below_at (low_enough n) (2 ^ n) (by_width (EachCode low_enough) tt tt tt tt tt tt tt tt n l u) k h);
   not_below = ltb→lt _ _ (below_at (high_enough n) (2 ^ n) (by_width (EachCode high_enough) tt tt tt tt tt tt tt tt n l u) k h);
 }
-
--- where 2^n - 1 divides 255, to expand is to multiply
-pub expanded_whole : (n k q : ℕ) → 1 ≤ n → n ≤ 8 → k < 2 ^ n → q * (2 ^ n - 1) ≡ 255 → expanded n k ≡ q * k
-expanded_whole n k q l u h e =
-    let m = 2 ^ n - 1 in
-    let o = expands n l u k h in
-    let f : 255 * k ≡ q * k * m = ap (λ x. x * k) (sym e) ∙ mul_right_comm q m k in
-    elim (split (expanded n k) (q * k)) [
-      | inl a ↦ absurd (omega (arith, o.not_below, f, step (expanded n k) (q * k) m a))
-      | inr a ↦ elim (split (q * k) (expanded n k)) [
-        | inl b ↦ absurd (omega (arith, o.not_above, f, step (q * k) (expanded n k) m b))
-        | inr b ↦ omega arith
-      ]
-    ]
 
 -- a byte truncates to n bits, which stand for a number that lies within 2^(8-n) - 1 of it
 pub record Truncates (n v : ℕ) : Type 0 where

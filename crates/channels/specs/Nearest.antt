@@ -158,9 +158,5 @@ rounded_le n d k D h = elim (split k (rounded n d)) [
   | inr l ↦ l
 ]
 
--- ---- a number that is computed so is nearest
-pub is_up : (n d r : ℕ) → 0 < d → r ≡ rounded n d → (r ≡ rounded n d) × NearestUp n d r
-is_up n d r D e = (e, subst (NearestUp n d) (sym e) (rounded_up n d D))
-
 pub is_odd : (n d r : ℕ) → d % 2 ≡ 1 → r ≡ rounded n d → (r ≡ rounded n d) × Nearest n d r
 is_odd n d r odd e = (e, subst (Nearest n d) (sym e) (rounded_odd n d odd))

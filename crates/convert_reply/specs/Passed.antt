@@ -7,8 +7,7 @@ use Rattle.words.specs.Tests.{pick}
 use Rattle.formats.specs.Codes.{A8R8G8B8}
 use Rattle.formats.specs.Classes.{is_convertible_rgb, is_packed_yuv, is_planar_yuv, is_yuv, is_argb_source, is_lane_source}
 use Rattle.yuv_sets.specs.declared.YuvSet.{YuvSet}
-use Rattle.yuv_sets.specs.Sets.{is_legal, bt601}
-use Rattle.yuv_sets.specs.Legal.{bt601_legal}
+use Rattle.yuv_sets.specs.Sets.{is_legal}
 use Rattle.convert_reply.specs.declared.ConvertRegion.{ConvertRegion}
 use Rattle.convert_reply.specs.declared.ConvertReply.{ConvertReply}
 use Rattle.convert_reply.specs.declared.ConvertReply.TheVariants.{Accepted, Unsupported, PlanarShape, SourceOutside, DestinationOutside, IllegalSet}
@@ -91,16 +90,6 @@ pub as_before : (numbers : YuvSet) (s d : ℕ) (r : ConvertRegion) (n m : ℕ) �
     ≡ pick (not (can_convert s d)) Unsupported (pick (bad_planar_shape s r) PlanarShape (pick (is_empty r) Accepted (pick (not (source_inside n s r)) SourceOutside (pick (not (destination_inside m d r)) DestinationOutside Accepted))))
 unfolding reply_to
 as_before numbers s d r n m h = rw h refl
-
--- so is the reply by bt601
-pub bt601_reply : (s d : ℕ) (r : ConvertRegion) (n m : ℕ)
-    → reply_to bt601 s d r n m
-    ≡ pick (not (can_convert s d)) Unsupported (pick (bad_planar_shape s r) PlanarShape (pick (is_empty r) Accepted (pick (not (source_inside n s r)) SourceOutside (pick (not (destination_inside m d r)) DestinationOutside Accepted))))
-bt601_reply s d r n m = as_before bt601 s d r n m (legal_fits bt601 s bt601_legal)
-
--- of a source that is no YUV the set is not looked at
-pub any_reply : (a b : YuvSet) (s d : ℕ) (r : ConvertRegion) (n m : ℕ) → is_yuv s ≡ false → reply_to a s d r n m ≡ reply_to b s d r n m
-any_reply a b s d r n m h = as_before a s d r n m (other_fits a s h) ∙ sym (as_before b s d r n m (other_fits b s h))
 
 -- ---- a YUV source that is accepted comes with a legal set
 pub legal_of : (numbers : YuvSet) (s : ℕ) → is_yuv s ≡ true → illegal_set s numbers ≡ false → is_legal numbers ≡ true

@@ -19,7 +19,7 @@ use Rattle.depth_texture.specs.Refusals.{accepts}
 use Rattle.depth_pixels.specs.PixelBytes.{stencil_at}
 use Rattle.depth_texture.specs.Planes.{depth_plane, stencil_plane, packed_pixels, if_accepted, unpacked_depth, unpacked_stencil, packed_buffer}
 use Rattle.depth_texture.specs.Promises.{first_refusal, SamePixels, Restores, SameElsewhere, PlanesKept, NearestCodes}
-use Rattle.depth_texture.specs.RoundTrip.{unpacked_accepted, unpacked_refused, packed_accepted, packed_refused, round_trip, nearest_packed, planes_kept, packed_kept}
+use Rattle.depth_texture.proofs.RoundTrip.{unpacked_accepted, unpacked_refused, packed_accepted, packed_refused, round_trip, nearest_packed, planes_kept, packed_kept}
 
 -- a call that the tests found acceptable, for the format that they found
 pub accepted_as : (d : PackedDepth) (f : ℕ) (l : PlaneLayout) (packed pitch depth stencil : ℕ) → (format_code d ≡ f) × (refusal_of f l packed pitch depth stencil ≡ 0)

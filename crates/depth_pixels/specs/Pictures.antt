@@ -9,7 +9,8 @@ use Rattle.std.proofs.Math.Logic.{inl, inr}
 use Rattle.std.proofs.Math.ListN.{length, get_or, take}
 use Rattle.std.proofs.Math.Arith.{lt_of_le-ne}
 use Rattle.std.proofs.Math.Seq.{sets, length-sets}
-use Rattle.words.specs.Iterate.{iterate, iterate_zero, iterate_step, iterate_keeps, iterate_length, iterate_same, iterate_makes}
+use Rattle.words.specs.Iterate.{iterate, iterate_zero, iterate_keeps, iterate_same}
+use Rattle.words.proofs.IterateLaws.{iterate_step, iterate_length, iterate_makes}
 use Rattle.words.specs.Slices.{sets_before, sets_after, sets_read, part_apart}
 use Rattle.words.specs.Tests.{split}
 use Rattle.channels.specs.Nearest.{step}

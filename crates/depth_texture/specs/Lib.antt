@@ -5,4 +5,3 @@ pub mod Planes
 pub mod Promises
 pub mod Powers
 pub mod Refusals
-pub mod RoundTrip

@@ -60,6 +60,6 @@ counted a = go (eqb (ones a) 1) refl
     go true e = sym (power_tested a (counted_power a (eqb-true (ones a) 1 e)))
     go false e = sym (not_power_tested a (λ p. eqb-false (ones a) 1 e (power_counted a p)))
 
--- THE LAW THAT JOINS THE TEST AND THE PREDICATE, with `power-tested`
+-- THE LAW THAT JOINS THE TEST AND THE PREDICATE, with `power_tested`
 pub tested_power : (a : ℕ) → is_power_of_two a ≡ true → PowerOfTwo a
 tested_power a h = counted_power a (eqb-true (ones a) 1 (counted a ∙ h))

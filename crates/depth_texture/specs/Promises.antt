@@ -3,7 +3,6 @@
 use Rattle.std.specs.Prelude.{◌≡◌, false, List, ℕ, ◌<◌, length, get_or, eqb}
 use Rattle.words.specs.Little.{number}
 use Rattle.words.specs.Tests.{pick}
-use Rattle.formats.specs.Codes as codes
 use Rattle.formats.specs.Table.{bytes_of}
 use Rattle.depth_texture.specs.declared.PlaneLayout.{PlaneLayout}
 use Rattle.depth_pixels.specs.Depth.{CodeFor}

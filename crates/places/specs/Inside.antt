@@ -1,4 +1,4 @@
--- A region lies inside where its last texel does: every offset of a texel is at most that of one further on.
+-- Every offset of a texel is at most that of one further on; so a region lies inside where its last texel does, as proofs/InsideLaws says.
 -- Assumes nothing.
 use Rattle.std.specs.Prelude.{◌≡◌, Bool, ◌&&◌, ◌||◌, leb, ltb, eqb, length, get_or, take, drop}
 use Rattle.std.proofs.Math.Path.{refl, sym}
@@ -6,18 +6,17 @@ use Rattle.std.proofs.Common.{ap, ◌∙◌, not-suc-le-zero, drop-cons}
 use Rattle.std.proofs.Math.Bool.{true, false}
 use Rattle.std.proofs.lemmas.Bool.{false≢true}
 use mathlib.Core.List.{List, [], ◌∷◌}
-use Prim.Native.Nat.{ℕ, zero, suc, ◌+◌, ◌-◌, ◌/◌, ◌≤◌, ◌<◌}
+use Prim.Native.Nat.{ℕ, zero, suc, ◌+◌, ◌/◌, ◌≤◌, ◌<◌}
 use native.Mathlib.Omega.{arith}
 use Rattle.std.proofs.Math.Nat.{mul-le-mul_right}
 use borrow.Author.Tests.{leb-true, le-leb, lt-leb, ltb-true, ltb-false, lt-ltb}
 use Rattle.words.specs.Tests.{pick, and_left, and_right, and_out}
-use Rattle.words.specs.Iterate.{all, all_true, all_at, all_false}
 use Rattle.formats.specs.Codes.{YV12}
 use Rattle.formats.specs.Table.{bytes_of}
 use Rattle.formats.specs.Classes.{is_packed_yuv, is_planar_yuv, is_lane_source}
 use Rattle.planar_yuv.specs.Rules.{allowed}
 use Rattle.planar_yuv.specs.Offsets.{contains, contains_is, contains_yes, luma_offset_at, nv12_u, nv12_v, yv12_u, yv12_v, u_offset_at, v_offset_at}
-use Rattle.places.specs.Places.{is_picture, absent, offsets, run, texel_start, planar_places, places_at, all_below, places_in, bytes_from, texel_in, inside_all}
+use Rattle.places.specs.Places.{is_picture, absent, offsets, run, texel_start, planar_places, places_at, all_below, places_in, bytes_from, texel_in}
 
 -- ---- offsets in a row
 pub run_in : (len start n : ℕ) → 0 < n → all_below len (run start n) ≡ leb (start + n) len
@@ -139,7 +138,7 @@ module _ (z y x z' y' x' : ℕ) (hz : z ≤ z') (hy : y ≤ y') (hx : x ≤ x') 
           (run_lower (bytes_of f) _ _ (start_lower pitch slice_pitch (bytes_of f) z y x z' y' x' hz hy hx)) k
 
 -- ---- the whole region
-texel_lower : (len f pitch slice_pitch z y x z' y' x' : ℕ) → z ≤ z' → y ≤ y' → x ≤ x' → texel_in len f pitch slice_pitch z' y' x' ≡ true → texel_in len f pitch slice_pitch z y x ≡ true
+pub texel_lower : (len f pitch slice_pitch z y x z' y' x' : ℕ) → z ≤ z' → y ≤ y' → x ≤ x' → texel_in len f pitch slice_pitch z' y' x' ≡ true → texel_in len f pitch slice_pitch z y x ≡ true
 unfolding texel_in
 texel_lower len f pitch slice_pitch z y x z' y' x' hz hy hx h =
     let xs = leb x' 4294967295 in
@@ -153,27 +152,6 @@ texel_lower len f pitch slice_pitch z y x z' y' x' hz hy hx h =
       le-leb y 4294967295 (omega arith),
       places_lower z y x z' y' x' hz hy hx len f pitch slice_pitch (and_right (xs && ys) ps h),
     ) refl
-
-module _ (len f pitch slice_pitch x0 y0 width height depth : ℕ) where
-  abbrev last : Bool
-  last = texel_in len f pitch slice_pitch (depth - 1) (y0 + (height - 1)) (x0 + (width - 1))
-
-  -- it is inside just where its last texel is
-  pub inside_last : 0 < width → 0 < height → 0 < depth → last ≡ inside_all len f pitch slice_pitch x0 y0 width height depth
-  unfolding inside_all
-  inside_last pw ph pd = go last refl
-    where
-      go : (t : Bool) → last ≡ t → t ≡ all (λ z. all (λ row. all (λ col. texel_in len f pitch slice_pitch z (y0 + row) (x0 + col)) width) height) depth
-      go true e =
-          sym (all_true _ depth λ z zl. all_true _ height λ row rl. all_true _ width λ col cl.
-          texel_lower len f pitch slice_pitch z (y0 + row) (x0 + col) (depth - 1) (y0 + (height - 1)) (x0 + (width - 1)) (omega arith) (omega arith) (omega arith) e)
-      go false e =
-          sym (all_false _ depth (depth - 1) (omega arith) (all_false _ height (height - 1) (omega arith) (all_false _ width (width - 1) (omega arith) e)))
-
-  pub inside_at : inside_all len f pitch slice_pitch x0 y0 width height depth ≡ true
-      → (z row col : ℕ) → z < depth → row < height → col < width → texel_in len f pitch slice_pitch z (y0 + row) (x0 + col) ≡ true
-  unfolding inside_all
-  inside_at h z row col zl rl cl = all_at _ width (all_at _ height (all_at _ depth h z zl) row rl) col cl
 
 -- what a texel that is inside has
 pub record TexelFits (len f pitch slice_pitch z y x : ℕ) : Type 0 where

@@ -11,7 +11,7 @@ use Rattle.planar_yuv.specs.declared.PlanarYuvLayout.{PlanarYuvLayout}
 use Rattle.planar_yuv.specs.declared.PlanarYuvAnswer.TheVariants.{Layout, Refused}
 use Rattle.planar_yuv.specs.Rules.{allowed_yes, allowed_no}
 use Rattle.planar_yuv.specs.Offsets.{contains, luma_offset_at, u_offset_at, v_offset_at, nv12_u, nv12_v, yv12_u, yv12_v}
-use Rattle.planar_yuv.specs.Apart.{planes}
+use Rattle.planar_yuv.proofs.ApartLaws.{planes}
 use Rattle.planar_yuv.specs.Answers.{reply_of, from_pitch, Legal, TexelOf, answered, refused, legal}
 use Rattle.places.specs.Places.{Places, absent, layout_places, planar_places, places_in}
 

@@ -1,2 +1,4 @@
--- What the proofs of several functions use.
+-- Laws that other crates cite, and what the proofs of several functions use.
 pub mod Bounds
+pub mod ApartLaws
+pub mod AnswersLaws

@@ -11,7 +11,7 @@ use Rattle.planar_yuv.specs.declared.PlanarYuvAnswer.{PlanarYuvAnswer}
 use Rattle.planar_yuv.specs.declared.PlanarYuvAnswer.TheVariants.{Layout, Refused}
 use Rattle.planar_yuv.specs.Rules.{chroma_rows_of, total_bytes_of, allowed, Allowed, allowed_yes, allowed_no, allowed_is, pitch_holds}
 use Rattle.planar_yuv.specs.Offsets.{u_offset_at, v_offset_at}
-use Rattle.planar_yuv.specs.Apart.{Planes, planes}
+use Rattle.planar_yuv.specs.Apart.{Planes}
 
 -- document 01's number and the four values handed back
 pub record Reply : Type 0 where
@@ -128,12 +128,6 @@ legal {f} {pitch} {rows} {l} a = record {
   chroma = a.chroma_are ∙ ap chroma_rows_of (sym a.rows_are);
   total = rw (a.pitch_is, a.rows_are) a.total_is;
 }
-
-pub planes_of : (f pitch rows : ℕ) (r : PlanarYuvAnswer) → reply_of r ≡ from_pitch f pitch rows → PlanesOf f r
-planes_of f pitch rows (Layout l) e =
-    let a = answered f pitch rows l e in
-    planes l.pitch l.luma_rows (omega (arith, a.pitch_is, a.rules.pitch_even)) f
-planes_of f pitch rows Refused e = tt
 
 -- the same of the values handed back
 pub planes_given : (f : ℕ) (r : PlanarYuvAnswer) → PlanesOf f r → (reply_of r).number ≡ 0

@@ -11,7 +11,7 @@ use Rattle.formats.specs.Table.{parts_of, bytes_of}
 use Rattle.formats.specs.Classes.{is_lane_source}
 use Rattle.formats.specs.Listed.{lane_some, lane_only}
 use Rattle.texels.specs.Texels.{decoded_of, encoded_bytes}
-use Rattle.texels.specs.Restored.{word_of_lem}
+use Rattle.texels.proofs.RestoredLaws.{word_of_lem}
 use Rattle.blocks.specs.Blocks.{word_from, word_written, word_of, word_in, BlockRead, WordsWritten}
 use Rattle.places.specs.Places.{texel_start}
 use Rattle.places.specs.Inside.{lane_ends}

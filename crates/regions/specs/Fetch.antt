@@ -22,7 +22,7 @@ use Rattle.stretch_rect.specs.Samples.{luma_place, u_place, v_place, packed_rgb,
 use Rattle.texels.specs.Texels.{decoded_of, encoded_bytes}
 use Rattle.convert_reply.specs.declared.ConvertRegion.{ConvertRegion}
 use Rattle.convert_reply.specs.Replies.{if_accepted}
-use Rattle.convert_reply.specs.Passed.{any_reply}
+use Rattle.convert_reply.proofs.PassedLaws.{any_reply}
 use Rattle.places.specs.Places.{absent, offsets, run, texel_start, layout_places, planar_places, places_at, places_in, bytes_at}
 use Rattle.places.specs.Inside.{lane_places, packed_places_lem, planar_places_lem, bytes_run}
 use Rattle.regions.specs.Regions.{luma_of, u_of, v_of, opaque_of, texel_of, texel_at, to_at, source_texel, written, row_written, slice_written, region_written, converted_with}

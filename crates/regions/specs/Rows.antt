@@ -1,7 +1,8 @@
 -- What a row of a region asks of the two buffers, and the law that a conversion is a run of rows. Assumes nothing.
 use Rattle.std.specs.Prelude.{◌≡◌, true, List, ℕ, ◌+◌, ◌*◌, ◌/◌, ◌%◌, ◌≤◌, ◌<◌}
 use Rattle.std.proofs.Common.{sym, ap, ◌∙◌}
-use Rattle.words.specs.Iterate.{iterate, iterate_flat, iterate_add}
+use Rattle.words.specs.Iterate.{iterate, iterate_add}
+use Rattle.words.proofs.IterateLaws.{iterate_flat}
 use Rattle.formats.specs.Table.{bytes_of}
 use Rattle.yuv_sets.specs.declared.YuvSet.{YuvSet}
 use Rattle.convert_reply.specs.declared.ConvertRegion.{ConvertRegion}

@@ -10,7 +10,8 @@ use native.Mathlib.Omega.{arith}
 use Rattle.std.proofs.Math.ListN.{length, get_or, take}
 use Rattle.std.proofs.lemmas.List.Edits.{sets}
 use Rattle.std.proofs.Math.Seq.{length-sets}
-use Rattle.words.specs.Iterate.{iterate_keeps, iterate_length, iterate_makes}
+use Rattle.words.specs.Iterate.{iterate_keeps}
+use Rattle.words.proofs.IterateLaws.{iterate_length, iterate_makes}
 use Rattle.words.specs.Slices.{sets_before, sets_after, sets_read, part_apart}
 use Rattle.formats.specs.Table.{bytes_of}
 use Rattle.words.specs.Tests.{split}

@@ -1,4 +1,7 @@
--- What the proofs of several functions use.
+-- Laws that other crates cite, and what the proofs of several functions use.
 pub mod Sizes
 pub mod Codes
 pub mod Places
+pub mod Decimals
+pub mod NearnessLaws
+pub mod ExactLaws

@@ -2,5 +2,4 @@
 pub mod Yuv
 pub mod Samples
 pub mod Nearness
-pub mod Decimals
 pub mod Exact

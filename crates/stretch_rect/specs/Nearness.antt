@@ -1,12 +1,11 @@
 -- How far a byte lies from what it is made of, for all integers: each part is rounded down once, and the sum is rounded to the
--- nearest. Assumes nothing.
+-- nearest. The bound of every set, by these, is in proofs/NearnessLaws. Assumes nothing.
 use Rattle.std.specs.Prelude.{◌≡◌, refl, ℕ, ◌+◌, ◌*◌, ◌<◌, ◌≤◌, min, ℤ, pos, negsuc, ◌+ℤ◌, ◌-ℤ◌}
 use Rattle.std.proofs.Common.{sym, ap, ◌∙◌, ⊎_elim, arith, mul-le-mul_right, lit<}
 use Rattle.std.proofs.Math.Nat.{min-eq_left, min-eq_right}
 use Rattle.std.proofs.Math.Decide.{dec_le}
 use Rattle.words.specs.Integers.{floor_div, clamp_to, up, dn, up_pos, dn_pos, one_zero, sum, difference, floor_low, floor_high}
-use Rattle.yuv_sets.specs.declared.YuvSet.{YuvSet}
-use Rattle.stretch_rect.specs.Yuv.{set_unit, set_slack, nearest_whole, ByteNear, RgbNear, rgb_of, red_rounded, green_rounded, blue_rounded, red_exact, green_exact, blue_exact, luma_part, chroma_part, luma_exact, chroma_exact}
+use Rattle.stretch_rect.specs.Yuv.{set_unit, set_slack, nearest_whole, ByteNear}
 
 pub clamp_is : (top : ℕ) (z : ℤ) → clamp_to top z ≡ min (up z) top
 unfolding clamp_to up
@@ -60,25 +59,13 @@ unfolding nearest_whole
 nearest_high z = omega (arith, sum z (pos 32768), up_pos 32768, dn_pos 32768, high (z +ℤ pos 32768))
 
 -- two parts are added, as for red and blue
-added_near : (l r : ℤ) → ByteNear set_unit set_slack (l +ℤ r) (clamp_to 255 (nearest_whole (floor_div l 65536 +ℤ floor_div r 65536)))
+pub added_near : (l r : ℤ) → ByteNear set_unit set_slack (l +ℤ r) (clamp_to 255 (nearest_whole (floor_div l 65536 +ℤ floor_div r 65536)))
 added_near l r = near_of set_unit set_slack (nearest_whole (floor_div l 65536 +ℤ floor_div r 65536)) (l +ℤ r)
     (omega (arith, nearest_low (floor_div l 65536 +ℤ floor_div r 65536), sum (floor_div l 65536) (floor_div r 65536), sum l r, low l, low r))
     (omega (arith, nearest_high (floor_div l 65536 +ℤ floor_div r 65536), sum (floor_div l 65536) (floor_div r 65536), sum l r, high l, high r))
 
 -- two parts are taken away, as for green
-taken_near : (l a b : ℤ) → ByteNear set_unit set_slack (l -ℤ a -ℤ b) (clamp_to 255 (nearest_whole (floor_div l 65536 -ℤ floor_div a 65536 -ℤ floor_div b 65536)))
+pub taken_near : (l a b : ℤ) → ByteNear set_unit set_slack (l -ℤ a -ℤ b) (clamp_to 255 (nearest_whole (floor_div l 65536 -ℤ floor_div a 65536 -ℤ floor_div b 65536)))
 taken_near l a b = near_of set_unit set_slack (nearest_whole (floor_div l 65536 -ℤ floor_div a 65536 -ℤ floor_div b 65536)) (l -ℤ a -ℤ b)
     (omega (arith, nearest_low (floor_div l 65536 -ℤ floor_div a 65536 -ℤ floor_div b 65536), difference (floor_div l 65536 -ℤ floor_div a 65536) (floor_div b 65536), difference (floor_div l 65536) (floor_div a 65536), difference (l -ℤ a) b, difference l a, low l, high a, high b))
     (omega (arith, nearest_high (floor_div l 65536 -ℤ floor_div a 65536 -ℤ floor_div b 65536), difference (floor_div l 65536 -ℤ floor_div a 65536) (floor_div b 65536), difference (floor_div l 65536) (floor_div a 65536), difference (l -ℤ a) b, difference l a, high l, low a, low b))
-
--- THE GENERAL BOUND: at every set of numbers and all samples, each byte is within 1/2 + 1/16384 of what the set's own numbers define, clamped
-pub set_near : (s : YuvSet) (y u v : ℕ) → RgbNear set_unit set_slack (red_exact s y u v) (green_exact s y u v) (blue_exact s y u v) (rgb_of s y u v)
-unfolding rgb_of red_exact green_exact blue_exact red_rounded green_rounded blue_rounded luma_part chroma_part
-set_near s y u v =
-    let l = luma_exact s.luma_offset s.luma_gain y in
-    let n = s.chroma_centre in
-    record {
-      red_near = added_near l (chroma_exact n s.v_to_red v);
-      green_near = taken_near l (chroma_exact n s.u_to_green u) (chroma_exact n s.v_to_green v);
-      blue_near = added_near l (chroma_exact n s.u_to_blue u);
-    }

@@ -1,8 +1,7 @@
--- THE ERROR BOUND: whatever the source, each channel that an RGB destination stores lies near the source's exact value.
+-- What the error bound of proofs/BoundsLaws rests on: widths of lanes, and how near a decoded byte lies to its exact value.
 -- Assumes nothing.
 use Rattle.std.specs.Prelude.{◌≡◌, refl, Bool, true, false, List, [], ◌∷◌, ℕ, ◌*◌, ◌-◌, ◌/◌, ◌^◌, ◌≤◌, ◌<◌, T, leb, eqb}
-use Rattle.std.proofs.Common.{sym, subst, arith, le_trans, mod-lt, mul-le-mul_left, pow_pos, pow_mono, leb→le, leb-true}
-use Rattle.std.proofs.lemmas.Bool.{false≢true}
+use Rattle.std.proofs.Common.{subst, arith, mod-lt, mul-le-mul_left, pow_pos, pow_mono, leb→le, leb-true}
 use Rattle.std.proofs.Math.Pow.{le_ones}
 use Rattle.std.specs.Float.{binary32}
 use Rattle.std.specs.Float.Ieee.{of_bits}
@@ -15,14 +14,15 @@ use Rattle.formats.specs.Table.{parts_of, lane_of, bytes_of, by_table, lanes_fil
 use Rattle.formats.specs.Classes.{rgb_formats, is_convertible_rgb}
 use Rattle.formats.specs.Listed.{listed_at}
 use Rattle.formats.specs.Packing.{Fit, Held, reads, packed_lt}
-use Rattle.channels.specs.Fractions.{◌over◌, Near, triangle, weaker, whole_near, mean_near}
-use Rattle.channels.specs.Expansion.{expanded, truncated, expands, truncates}
+use Rattle.channels.specs.Fractions.{◌over◌, Near, weaker, whole_near}
+use Rattle.channels.specs.Expansion.{expanded, expands, truncates}
 use Rattle.channels.specs.Nearest.{rounded_le}
-use Rattle.channels.specs.Luminance.{luminance_of, luminance_near, luminance_byte}
+use Rattle.channels.specs.Luminance.{luminance_byte}
 use Rattle.channels.specs.Floats.{clamped, bottom_pos, top_le}
-use Rattle.channels.specs.Exact.{code_value, not_negative, signed_le, expanded_near, truncated_near, rounded_near}
+use Rattle.channels.specs.Exact.{code_value, not_negative, rounded_near}
+use Rattle.channels.proofs.ExactLaws.{signed_le, expanded_near}
 use Rattle.texels.specs.declared.Texel.{Texel}
-use Rattle.texels.specs.Texels.{nearest_byte, code_byte, lane_byte, or_else, colour_of, missing_colour, decoded_of, byte_of, code_of, encoded_of, encoded_bytes, lane_value, Values, value_of, exact_of, Stands, quarters, is_colour, Holds}
+use Rattle.texels.specs.Texels.{nearest_byte, code_byte, lane_byte, or_else, colour_of, missing_colour, byte_of, code_of, encoded_of, encoded_bytes, lane_value, Values, Stands}
 
 -- ---- every lane of the table has a width of at least one bit, two where it has a sign, and those of an RGB format at most eight
 abbrev least : Kind → ℕ
@@ -32,7 +32,7 @@ least float16 = 1
 least float32 = 1
 least ignored = 1
 
-some_bit : (k : Kind) → 1 ≤ least k
+pub some_bit : (k : Kind) → 1 ≤ least k
 some_bit unsigned = omega arith
 some_bit signed = omega arith
 some_bit float16 = omega arith
@@ -75,7 +75,7 @@ pub lane_wide : (f : ℕ) (c : Channel) → Wide (lane_of f c)
 unfolding lane_of
 lane_wide f c = found_wide c (parts_of f) (by_table wide tt tt f)
 
-colour_wide : (f : ℕ) (c : Channel) → Wide (colour_of f c)
+pub colour_wide : (f : ℕ) (c : Channel) → Wide (colour_of f c)
 unfolding colour_of
 colour_wide f c = go (lane_of f c) (lane_of f luminance) (lane_wide f c) (lane_wide f luminance)
   where
@@ -125,7 +125,7 @@ module _ (n k : ℕ) (h : 1 ≤ n) (l : k < 2 ^ n) where
 same_near : (m : ℕ) → Near 3 (m over 1) (m over 1)
 same_near m = whole_near 3 m m 1 (omega arith) (omega arith) (omega arith)
 
-lane_byte_lem : (m : ℕ) (l : Lane) (w : ℕ) → m < 256 → Wide l → lane_byte m l w < 256
+pub lane_byte_lem : (m : ℕ) (l : Lane) (w : ℕ) → m < 256 → Wide l → lane_byte m l w < 256
 lane_byte_lem m nowhere w k h = k
 lane_byte_lem m (at low n unsigned) w k h = code_byte_lem n (code_at low n w) h (code_lt low n w)
 lane_byte_lem m (at low n signed) w k h =
@@ -136,7 +136,7 @@ lane_byte_lem m (at low n float32) w k h =
 lane_byte_lem m (at low n float16) w k h = k
 lane_byte_lem m (at low n ignored) w k h = k
 
-lane_near : (m : ℕ) (l : Lane) (w : ℕ) → Wide l → Near 3 (lane_byte m l w over 1) (lane_value m l w)
+pub lane_near : (m : ℕ) (l : Lane) (w : ℕ) → Wide l → Near 3 (lane_byte m l w over 1) (lane_value m l w)
 lane_near m nowhere w h = same_near m
 lane_near m (at low n unsigned) w h = code_near n (code_at low n w) h (code_lt low n w)
 lane_near m (at low n signed) w h = nearest_near (not_negative n (code_at low n w)) (2 ^ (n - 1) - 1) (ones_pos (n - 1) (omega arith))
@@ -146,27 +146,13 @@ lane_near m (at low n float32) w h =
 lane_near m (at low n float16) w h = same_near m
 lane_near m (at low n ignored) w h = same_near m
 
-missing_byte : (f : ℕ) → missing_colour f < 256
+pub missing_byte : (f : ℕ) → missing_colour f < 256
 unfolding missing_colour
 missing_byte f = go (eqb f A8)
   where
     go : (b : Bool) → pick b 0 255 < 256
     go true = omega arith
     go false = omega arith
-
--- a texel that the lane table decodes
-pub decoded_stands : (f w : ℕ) → Stands (decoded_of f w) (exact_of f w)
-unfolding decoded_of exact_of
-decoded_stands f w = record {
-  r_byte = lane_byte_lem (missing_colour f) (colour_of f red) w (missing_byte f) (colour_wide f red);
-  g_byte = lane_byte_lem (missing_colour f) (colour_of f green) w (missing_byte f) (colour_wide f green);
-  b_byte = lane_byte_lem (missing_colour f) (colour_of f blue) w (missing_byte f) (colour_wide f blue);
-  a_byte = lane_byte_lem 255 (lane_of f alpha) w (omega arith) (lane_wide f alpha);
-  r_near = lane_near (missing_colour f) (colour_of f red) w (colour_wide f red);
-  g_near = lane_near (missing_colour f) (colour_of f green) w (colour_wide f green);
-  b_near = lane_near (missing_colour f) (colour_of f blue) w (colour_wide f blue);
-  a_near = lane_near 255 (lane_of f alpha) w (lane_wide f alpha);
-}
 
 -- ---- any source: each channel of the texel is a byte near its exact value
 module _ {t : Texel} {x : Values} (o : Stands t x) where
@@ -200,29 +186,3 @@ module _ (t : Texel) (h : (c : Channel) → byte_of t c < 256) where
   encoded_number f rgb =
       number_bytes (bits (parts_of f) / 8) (packed (code_of t) (parts_of f))
       (subst (λ x. packed (code_of t) (parts_of f) < 2 ^ x) (lanes_filled f).whole_bytes (packed_lt (code_of t) (parts_of f) (fit (parts_of f) (rgb_narrow f rgb))))
-
--- ---- THE BOUND
-module _ {t : Texel} {x : Values} (o : Stands t x) where
-  -- what a channel holds after truncating to n bits
-  near_code : (c : Channel) → is_colour c ≡ true → (n : ℕ) → 1 ≤ n → n ≤ 8 → Near (quarters c n) (code_value n (truncated n (byte_of t c))) (value_of x c)
-  near_code red p n l u = triangle (truncated_near n t.r l u o.r_byte) o.r_near
-  near_code green p n l u = triangle (truncated_near n t.g l u o.g_byte) o.g_near
-  near_code blue p n l u = triangle (truncated_near n t.b l u o.b_byte) o.b_near
-  near_code alpha p n l u = triangle (truncated_near n t.a l u o.a_byte) o.a_near
-  near_code luminance p n l u =
-      triangle (truncated_near n (luminance_of t.r t.g t.b) l u (channel_byte o luminance))
-      (triangle (luminance_near t.r t.g t.b) (mean_near t.r t.g t.b o.r_near o.g_near o.b_near))
-  near_code depth p n l u = absurd (false≢true p)
-  near_code stencil p n l u = absurd (false≢true p)
-  near_code padding p n l u = absurd (false≢true p)
-
-  module _ (d : ℕ) (rgb : is_convertible_rgb d ≡ true) (c : Channel) (p : is_colour c ≡ true) where
-    near_word : Holds c (lane_of d c) (encoded_of d t) (value_of x c)
-    near_word = go (lane_of d c) (lane_wide d c) (lane_narrow d rgb c) (encoded_holds t (channel_byte o) d rgb c)
-      where
-        go : (l : Lane) → Wide l → Narrow l → Held (code_of t) c l (bits (parts_of d)) (encoded_of d t) → Holds c l (encoded_of d t) (value_of x c)
-        go nowhere a b k = tt
-        go (at low n kind) a b k = subst (λ v. Near (quarters c n) (code_value n v) (value_of x c)) (sym k.0) (near_code c p n (le_trans (some_bit kind) a) b)
-
-    pub near_bytes : Holds c (lane_of d c) (number (encoded_bytes d t)) (value_of x c)
-    near_bytes = subst (λ v. Holds c (lane_of d c) v (value_of x c)) (sym (encoded_number t (channel_byte o) d rgb)) near_word

@@ -1,8 +1,8 @@
--- Encoding what was decoded from the same RGB format restores every bit but X, and an A8R8G8B8 word keeps the texel that it was made of.
+-- An A8R8G8B8 word keeps the texel that it was made of; and what it is to restore a lane, which proofs/RestoredLaws proves of every RGB format.
 -- Assumes nothing.
 use Rattle.std.specs.Prelude.{◌≡◌, refl, Bool, true, false, ◌||◌, ℕ, ◌+◌, ◌*◌, ◌/◌, ◌%◌, ◌^◌, ◌≤◌, ◌<◌}
 use Rattle.std.proofs.Math.Path.{ap}
-use Rattle.std.proofs.Common.{◌∙◌, subst, div-one, arith, le-leb}
+use Rattle.std.proofs.Common.{◌∙◌, div-one, arith, le-leb}
 use Rattle.std.proofs.lemmas.Bool.{false≢true}
 use Rattle.std.proofs.Math.Dec.{T}
 use Rattle.formats.specs.Codes.{R8G8B8, A8R8G8B8, X8R8G8B8}
@@ -11,12 +11,12 @@ use Rattle.formats.specs.Table.{parts_of, lane_of}
 use Rattle.formats.specs.Classes.{rgb_formats, is_convertible_rgb}
 use Rattle.formats.specs.Packing.{Held}
 use Rattle.formats.specs.Listed.{listed_at}
-use Rattle.channels.specs.Expansion.{expanded, truncated, expands}
+use Rattle.channels.specs.Expansion.{expanded, truncated}
 use Rattle.channels.specs.Luminance.{luminance_of}
 use Rattle.texels.specs.declared.Texel.{Texel}
-use Rattle.texels.specs.Texels.{code_byte, lane_byte, or_else, colour_of, missing_colour, decoded_of, byte_of, code_of, encoded_of, is_colour}
+use Rattle.texels.specs.Texels.{code_byte, colour_of, missing_colour, decoded_of, byte_of, code_of, encoded_of, is_colour}
 use Rattle.texels.specs.Words.{expanded_eight}
-use Rattle.texels.specs.Bounds.{Wide, Narrow, lane_wide, lane_narrow, code_lt, decoded_stands, channel_byte, encoded_holds}
+use Rattle.texels.specs.Bounds.{encoded_holds}
 
 -- two words hold the same code in a lane
 abbrev pub SameLane : Lane → (v w : ℕ) → Type 0
@@ -25,7 +25,7 @@ SameLane (at low n k) v w = code_at low n v ≡ code_at low n w
 
 -- ---- the lanes of the RGB formats
 -- a lane that is not there, or an unsigned one
-abbrev plain : Lane → Bool
+abbrev pub plain : Lane → Bool
 plain nowhere = true
 plain (at low n unsigned) = true
 plain (at low n signed) = false
@@ -33,15 +33,15 @@ plain (at low n float16) = false
 plain (at low n float32) = false
 plain (at low n ignored) = false
 
-abbrev absent : Lane → Bool
+abbrev pub absent : Lane → Bool
 absent nowhere = true
 absent (at low n k) = false
 
-absent_is : (l : Lane) → T (absent l) → l ≡ nowhere
+pub absent_is : (l : Lane) → T (absent l) → l ≡ nowhere
 absent_is nowhere h = refl
 absent_is (at low width _) h = elim h [ ]
 
-rgb_plain : (f : ℕ) → is_convertible_rgb f ≡ true → (c : Channel) → is_colour c ≡ true → T (plain (lane_of f c))
+pub rgb_plain : (f : ℕ) → is_convertible_rgb f ≡ true → (c : Channel) → is_colour c ≡ true → T (plain (lane_of f c))
 unfolding is_convertible_rgb lane_of parts_of
 rgb_plain f h red p = listed_at (λ g. plain (lane_of g red)) rgb_formats tt f h
 rgb_plain f h green p = listed_at (λ g. plain (lane_of g green)) rgb_formats tt f h
@@ -53,63 +53,21 @@ rgb_plain f h stencil p = absurd (false≢true p)
 rgb_plain f h padding p = absurd (false≢true p)
 
 -- a format with a luminance has no colour
-alone : (f : ℕ) (c : Channel) → Bool
+unfoldable pub alone : (f : ℕ) (c : Channel) → Bool
 alone f c = absent (lane_of f luminance) || absent (lane_of f c)
 
-rgb_alone : (f : ℕ) → is_convertible_rgb f ≡ true → T (alone f red) × (T (alone f green) × T (alone f blue))
+pub rgb_alone : (f : ℕ) → is_convertible_rgb f ≡ true → T (alone f red) × (T (alone f green) × T (alone f blue))
 unfolding alone is_convertible_rgb lane_of parts_of
 rgb_alone f h =
     (listed_at (λ g. alone g red) rgb_formats tt f h, (listed_at (λ g. alone g green) rgb_formats tt f h, listed_at (λ g. alone g blue) rgb_formats tt f h))
 
 -- ---- bytes of lanes
-narrow_byte : (n k : ℕ) → n ≤ 8 → code_byte n k ≡ expanded n k
+pub narrow_byte : (n k : ℕ) → n ≤ 8 → code_byte n k ≡ expanded n k
 narrow_byte n k h = rw (le-leb n 8 h) refl
 
-luminance_same : (v : ℕ) → luminance_of v v v ≡ v
+pub luminance_same : (v : ℕ) → luminance_of v v v ≡ v
 unfolding luminance_of
 luminance_same v = omega arith
-
-module _ (f w : ℕ) where
-  abbrev t : Texel
-  t = decoded_of f w
-
-  -- the byte that stands for a lane that is there
-  pub byte_of_lem : (c : Channel) → is_colour c ≡ true → is_convertible_rgb f ≡ true → (low n : ℕ) → lane_of f c ≡ at low n unsigned → n ≤ 8 → byte_of t c ≡ expanded n (code_at low n w)
-  unfolding decoded_of colour_of alone
-  byte_of_lem red p h low n e u = ap (λ l. lane_byte (missing_colour f) (or_else l (lane_of f luminance)) w) e ∙ narrow_byte n (code_at low n w) u
-  byte_of_lem green p h low n e u = ap (λ l. lane_byte (missing_colour f) (or_else l (lane_of f luminance)) w) e ∙ narrow_byte n (code_at low n w) u
-  byte_of_lem blue p h low n e u = ap (λ l. lane_byte (missing_colour f) (or_else l (lane_of f luminance)) w) e ∙ narrow_byte n (code_at low n w) u
-  byte_of_lem alpha p h low n e u = ap (λ l. lane_byte 255 l w) e ∙ narrow_byte n (code_at low n w) u
-  byte_of_lem luminance p h low n e u =
-      let a = rgb_alone f h in
-      ap (λ x. luminance_of x t.g t.b) (colour red a.0)
-      ∙ ap (λ x. luminance_of (expanded n (code_at low n w)) x t.b) (colour green a.1.0)
-      ∙ ap (λ x. luminance_of (expanded n (code_at low n w)) (expanded n (code_at low n w)) x) (colour blue a.1.1)
-      ∙ luminance_same (expanded n (code_at low n w))
-    where
-      missing : (c : Channel) → T (alone f c) → lane_of f c ≡ nowhere
-      missing c s = absent_is (lane_of f c) (subst (λ l. T (absent l || absent (lane_of f c))) e s)
-
-      colour : (c : Channel) → T (alone f c) → lane_byte (missing_colour f) (or_else (lane_of f c) (lane_of f luminance)) w ≡ expanded n (code_at low n w)
-      colour c s = ap (λ l. lane_byte (missing_colour f) (or_else l (lane_of f luminance)) w) (missing c s) ∙ ap (λ l. lane_byte (missing_colour f) l w) e ∙ narrow_byte n (code_at low n w) u
-  byte_of_lem depth p h low n e u = absurd (false≢true p)
-  byte_of_lem stencil p h low n e u = absurd (false≢true p)
-  byte_of_lem padding p h low n e u = absurd (false≢true p)
-
-  -- THE LAW: every lane but X holds what it held
-  pub restored : is_convertible_rgb f ≡ true → (c : Channel) → is_colour c ≡ true → SameLane (lane_of f c) (encoded_of f t) w
-  restored h c p =
-      go (lane_of f c) refl (rgb_plain f h c p) (lane_wide f c) (lane_narrow f h c)
-      (encoded_holds t (channel_byte (decoded_stands f w)) f h c)
-    where
-      go : (l : Lane) → lane_of f c ≡ l → T (plain l) → Wide l → Narrow l → Held (code_of t) c l (bits (parts_of f)) (encoded_of f t) → SameLane l (encoded_of f t) w
-      go nowhere e q a b x = tt
-      go (at low n unsigned) e q a b x =
-          x.0 ∙ ap (truncated n) (byte_of_lem c p h low n e b) ∙ (expands n a b (code_at low n w) (code_lt low n w)).restored
-      go (at low n signed) e q a b x = absurd q
-      go (at low n float16) e q a b x = absurd q
-      go (at low n float32) e q a b x = absurd q
-      go (at low n ignored) e q a b x = absurd q
 
 -- ---- an A8R8G8B8 word
 -- eight bits of eight are the byte
@@ -130,10 +88,6 @@ word_keeps t h =
       b = byte blue (code_at 0 8 w) (holds blue).0 i;
       a = byte alpha (code_at 24 8 w) (holds alpha).0 i;
     }
-
--- so a texel that was decoded goes on as it is
-pub word_of_lem : (f v : ℕ) → decoded_of A8R8G8B8 (encoded_of A8R8G8B8 (decoded_of f v)) ≡ decoded_of f v
-word_of_lem f v = word_keeps (decoded_of f v) (channel_byte (decoded_stands f v))
 
 -- ---- R8G8B8
 -- a fourth byte above the three makes no difference, if it is read as X

@@ -7,7 +7,7 @@ use Rattle.words.specs.Tests.{pick}
 use Rattle.yuv_sets.specs.declared.YuvSet.{YuvSet}
 use Rattle.convert_reply.specs.declared.ConvertRegion.{ConvertRegion}
 use Rattle.regions.specs.Regions.{converted_with, NearWith}
-use Rattle.regions.specs.Promises.{near_source}
+use Rattle.regions.proofs.Promises.{near_source}
 use Rattle.depth_texture.specs.declared.PlaneLayout.{PlaneLayout}
 use Rattle.depth_pixels.specs.Pixels.{has_stencil, KeepsAll}
 use Rattle.depth_texture.specs.Replies.{refusal_of}
@@ -15,7 +15,7 @@ use Rattle.depth_texture.specs.Refusals.{accepts}
 use Rattle.depth_pixels.specs.PixelBytes.{stencil_at}
 use Rattle.depth_texture.specs.Planes.{unpacked_depth, unpacked_stencil, packed_buffer}
 use Rattle.depth_texture.specs.Promises.{Restores, NearestCodes}
-use Rattle.depth_texture.specs.RoundTrip.{unpacked_accepted, packed_accepted, nearest_packed, round_trip}
+use Rattle.depth_texture.proofs.RoundTrip.{unpacked_accepted, packed_accepted, nearest_packed, round_trip}
 
 -- a list of bytes
 abbrev pub Bytewise : List ℕ → Type 0

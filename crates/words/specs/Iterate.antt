@@ -1,8 +1,7 @@
 -- A loop's meaning: steps 0 to n - 1 applied in order, and a test of each number below n.
 -- Assumes nothing.
-use Rattle.std.specs.Prelude.{◌≡◌, refl, Bool, true, false, ◌&&◌, List, ℕ, zero, suc, ◌+◌, ◌*◌, ◌/◌, ◌%◌, ◌<◌, length}
-use Rattle.std.proofs.Common.{sym, ap, ap₂, ◌∙◌, subst, ⊎_elim, arith, not-suc-le-zero, add-suc, add-zero, zero-mul, suc-mul, add-one}
-use Rattle.std.proofs.Math.Arith.{digits_div, digits_mod}
+use Rattle.std.specs.Prelude.{◌≡◌, refl, Bool, true, false, ◌&&◌, ℕ, zero, suc, ◌+◌, ◌<◌}
+use Rattle.std.proofs.Common.{ap, ap₂, ◌∙◌, ⊎_elim, arith, not-suc-le-zero, add-suc, add-zero, add-one}
 use Rattle.words.specs.Tests.{and_left, and_right, and_out, lt_or_eq}
 
 -- from a, step 0, then step 1, up to step n - 1
@@ -25,32 +24,11 @@ pub iterate_more : {A : Type 0} (f : ℕ → A → A) (n : ℕ) (a : A) → iter
 unfolding iterate
 iterate_more f n a = rw add-one refl
 
--- one turn of a loop
-pub iterate_step : {A : Type 0} (f : ℕ → A → A) (i : ℕ) (a₀ a a' : A) → a ≡ iterate f i a₀ → a' ≡ f i a → a' ≡ iterate f (i + 1) a₀
-iterate_step f i a₀ a a' e e' = e' ∙ ap (f i) e ∙ sym (iterate_more f i a₀)
-
 -- what every step keeps, the whole keeps
 pub iterate_keeps : {A : Type 0} (P : A → Type 0) (f : ℕ → A → A) (n : ℕ) → ((k : ℕ) → k < n → (a : A) → P a → P (f k a)) → (a : A) → P a → P (iterate f n a)
 unfolding iterate
 iterate_keeps P f zero h a p = p
 iterate_keeps P f (suc n) h a p = h n (omega arith) (iterate f n a) (iterate_keeps P f n (λ k l. h k (omega arith)) a p)
-
--- what one step makes and the others keep, the whole makes
-pub iterate_makes : {A : Type 0} (I P : A → Type 0) (f : ℕ → A → A) (n m : ℕ) → m < n
-    → ((k : ℕ) (b : A) → I b → I (f k b))
-    → ((b : A) → I b → P (f m b))
-    → ((k : ℕ) → k < n → (k ≡ m → ⊥) → (b : A) → P b → P (f k b))
-    → (a : A) → I a → P (iterate f n a)
-unfolding iterate
-iterate_makes I P f zero m lt inv make keep a i = absurd (not-suc-le-zero lt)
-iterate_makes I P f (suc n) m lt inv make keep a i =
-    ⊎_elim
-    (λ less. keep n (omega arith) (λ e. omega arith) (iterate f n a) (iterate_makes I P f n m less inv make (λ k l. keep k (omega arith)) a i))
-    (λ same. subst (λ k. P (f k (iterate f n a))) same (make (iterate f n a) (iterate_keeps I f n (λ k l. inv k) a i)))
-    (lt_or_eq m n lt)
-
-pub iterate_length : {A : Type 0} (f : ℕ → List A → List A) → ((k : ℕ) (l : List A) → length (f k l) ≡ length l) → (n : ℕ) (l : List A) → length (iterate f n l) ≡ length l
-iterate_length f same n l = iterate_keeps (λ m. length m ≡ length l) f n (λ k lt m e. same k m ∙ e) l refl
 
 -- the first a steps, and then the b others
 pub iterate_add : {A : Type 0} (f : ℕ → A → A) (a b : ℕ) (x : A) → iterate f (a + b) x ≡ iterate (λ k. f (a + k)) b (iterate f a x)
@@ -63,18 +41,6 @@ pub iterate_same : {A : Type 0} (f g : ℕ → A → A) (n : ℕ) (a : A) → ((
 unfolding iterate
 iterate_same f g zero a h = refl
 iterate_same f g (suc n) a h = h n (omega arith) (iterate f n a) ∙ ap (g n) (iterate_same f g n a (λ k l. h k (omega arith)))
-
--- a loop in a loop as one run, whose step n is step n % h of turn n / h
-pub iterate_flat : {A : Type 0} (g : ℕ → ℕ → A → A) (h d : ℕ) (a : A) → iterate (λ z. iterate (g z) h) d a ≡ iterate (λ n. g (n / h) (n % h)) (d * h) a
-unfolding iterate
-iterate_flat g h zero a = rw zero-mul refl
-iterate_flat g h (suc d) a =
-    ap (iterate (g d) h) (iterate_flat g h d a)
-    ∙ sym
-    (ap (λ (n : ℕ). iterate (λ n. g (n / h) (n % h)) n a) (suc-mul d h)
-    ∙ iterate_add (λ n. g (n / h) (n % h)) (d * h) h a
-    ∙ iterate_same (λ k. g ((d * h + k) / h) ((d * h + k) % h)) (g d) h (iterate (λ n. g (n / h) (n % h)) (d * h) a)
-    (λ k l b. rw (digits_div d l, digits_mod d l) refl))
 
 -- ---- tests
 

@@ -1,6 +1,6 @@
 -- The bounds of a legal set, that a set equal to another in all seven numbers is that other, and the decimals of the two that have names.
 -- Assumes nothing.
-use Rattle.std.specs.Prelude.{◌≡◌, refl, Bool, true, false, ◌&&◌, ◌||◌, ℕ, ◌+◌, ◌*◌, ◌≤◌, ◌<◌, leb, ltb, eqb}
+use Rattle.std.specs.Prelude.{◌≡◌, refl, Bool, true, false, ◌&&◌, ◌||◌, ℕ, ◌+◌, ◌*◌, ◌≤◌, leb, ltb, eqb}
 use Rattle.std.proofs.lemmas.Bool.{false≢true}
 use Rattle.std.proofs.Common.{arith, lit<, leb-true, ltb-true, eqb-true}
 use Rattle.words.specs.Tests.{and_left, and_right}

@@ -4,8 +4,8 @@ use Prim.Native.Nat.{ℕ, ◌+◌, ◌*◌, ◌/◌, ◌%◌, ◌<◌, ◌^◌}
 use native.Mathlib.Nat.{add-zero}
 use native.Mathlib.Omega.{arith}
 use lib.Ieee.{binary32, of_bits}
-use borrow.Author.Rules.{rules}
-use Rattle.binary16.specs.Half.{code_of, code_small, half_of, HalfOf, half_of_lem, nearest_half}
+use Rattle.binary16.specs.Half.{code_of, half_of, HalfOf, nearest_half}
+use Rattle.binary16.proofs.HalfLaws.{code_small, half_of_lem}
 use Rattle.binary16.specs.Patterns.{nan_code, overflow_code, zero_code, unit_code, nearest_code_lem, float_units}
 use Rattle.binary16.proofs.f32_to_f16_bits.Goals as goal
 
@@ -24,22 +24,22 @@ signless b l =
 pub returns-then-magnitude-gt-INFINITY : goal.returns-then-magnitude-gt-INFINITY
 returns-then-magnitude-gt-INFINITY c =
     let both = answer c.args.bits 0x7e00 _ (nan_code c.args.bits (omega (arith, c.if-magnitude-gt-INFINITY.true))) refl in
-    record { is = both.0; nearest = both.1; }
+    record { is = both.0; nearest = both.1 }
 
 pub returns-then-magnitude-ge-FIRST_OVERFLOW : goal.returns-then-magnitude-ge-FIRST_OVERFLOW
 returns-then-magnitude-ge-FIRST_OVERFLOW c =
     let both = answer c.args.bits 0x7c00 _ (overflow_code c.args.bits (omega (arith, c.if-magnitude-ge-FIRST_OVERFLOW.true)) (omega (arith, c.if-magnitude-gt-INFINITY.false))) refl in
-    record { is = both.0; nearest = both.1; }
+    record { is = both.0; nearest = both.1 }
 
 pub returns-then-magnitude-gt-TIE_WITH_ZERO : goal.returns-then-magnitude-gt-TIE_WITH_ZERO
 returns-then-magnitude-gt-TIE_WITH_ZERO c =
     let both = answer c.args.bits 1 _ (unit_code c.args.bits (omega (arith, c.if-magnitude-gt-TIE_WITH_ZERO.true)) (omega (arith, c.if-magnitude-lt-SMALLEST_SUBNORMAL.true))) refl in
-    record { is = both.0; nearest = both.1; }
+    record { is = both.0; nearest = both.1 }
 
 pub returns-then-magnitude-lt-SMALLEST_SUBNORMAL : goal.returns-then-magnitude-lt-SMALLEST_SUBNORMAL
 returns-then-magnitude-lt-SMALLEST_SUBNORMAL c =
     let both = answer c.args.bits 0 _ (zero_code c.args.bits (omega (arith, c.if-magnitude-gt-TIE_WITH_ZERO.false))) (sym (add-zero _)) in
-    record { is = both.0; nearest = both.1; }
+    record { is = both.0; nearest = both.1 }
 
 pub overflow_add-result-2 : goal.overflow_add-result-2
 overflow_add-result-2 c =
@@ -55,4 +55,4 @@ pub returns : goal.returns
 returns c =
     let found : code_of (of_bits binary32 c.args.bits) ≡ c.nearest_f16.result = signless c.args.bits (omega (arith, c.if-magnitude-ge-FIRST_OVERFLOW.false)) ∙ sym c.nearest_f16.ensures in
     let both = answer c.args.bits c.nearest_f16.result _ found refl in
-    record { is = both.0; nearest = both.1; }
+    record { is = both.0; nearest = both.1 }

@@ -5,8 +5,8 @@ use native.Mathlib.Nat.{zero-add}
 use native.Mathlib.Omega.{arith}
 use lib.Ieee.{binary32, of_bits}
 use lib.Ieee.Nearest.{closest}
-use borrow.Author.Rules.{rules}
-use Rattle.binary16.specs.Half.{code_of, code_small}
+use Rattle.binary16.specs.Half.{code_of}
+use Rattle.binary16.proofs.HalfLaws.{code_small}
 use Rattle.binary16.specs.Patterns.{rounded_code}
 use Rattle.binary16.proofs.nearest_f16.Goals as goal
 

@@ -4,17 +4,14 @@ use Prim.Native.Nat.{ℕ, ◌+◌, ◌*◌, ◌-◌, ◌≤◌, ◌<◌, min}
 use native.Mathlib.Nat.{le_antisymm}
 use native.Mathlib.Omega.{arith}
 use lib.ListN.{length}
-use lib.Seq.{sets}
-use Rattle.words.specs.Iterate.{iterate, iterate_zero}
+use Rattle.words.specs.Iterate.{iterate_zero}
 use Rattle.formats.specs.Table.{parts_of, bytes_of}
 use Rattle.yuv_sets.specs.Sets.{bt601}
-use Rattle.texels.specs.Texels.{encoded_bytes}
 use Rattle.blocks.specs.Blocks.{word_of}
-use Rattle.places.specs.Places.{texel_start}
-use Rattle.regions.specs.Regions.{to_at, texel_at, source_texel, written, row_written}
+use Rattle.regions.specs.Regions.{to_at, source_texel, written, row_written}
 use Rattle.convert_reply.specs.Passed.{convert_rgb}
 use Rattle.regions.specs.Fetch.{any_set}
-use Rattle.regions.specs.Carried.{Carried, read_room, write_room, block_rows, block_texels, block_carried, first_carried, row_read, row_write, lying_row}
+use Rattle.regions.specs.Carried.{read_room, write_room, block_rows, block_texels, block_carried, first_carried, row_read, row_write, lying_row}
 use borrow.Author.Rules.{rules}
 use Rattle.block_rows.proofs.block_row.Goals as goal
 

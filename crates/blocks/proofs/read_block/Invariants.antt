@@ -1,16 +1,7 @@
-use mathlib.Core.Path.{◌≡◌, refl, sym, ap, ◌∙◌, subst}
-use mathlib.Core.List.{List}
-use Prim.Native.Nat.{ℕ, ◌+◌, ◌*◌, ◌-◌, ◌≤◌, ◌<◌}
-use native.Mathlib.Nat.{le_antisymm}
-use native.Mathlib.Omega.{arith}
-use lib.ListN.{length, take, length-set, length-take, length-drop}
-use Rattle.words.specs.Little.{number}
-use Rattle.words.specs.Slices.{part_read}
-use Rattle.formats.specs.Codes.{A8R8G8B8}
-use Rattle.formats.specs.Table.{bytes_of}
-use Rattle.texels.specs.Texels.{decoded_of, encoded_of}
-use Rattle.blocks.specs.Blocks.{word_from, BlockRead, read_more}
-use borrow.Author.Rules.{rules}
+use mathlib.Core.Path.{◌≡◌}
+use Prim.Native.Nat.{◌-◌, ◌≤◌}
+use lib.ListN.{length}
+use Rattle.blocks.specs.Blocks.{BlockRead}
 use Rattle.blocks.proofs.read_block.Given as goal
 
 abbrev pub invariant-loop-i : goal.invariant-loop-i

@@ -11,7 +11,6 @@ use Rattle.formats.specs.Table.{parts_of, bytes_of}
 use Rattle.formats.specs.Classes.{is_convertible_rgb, is_lane_source}
 use Rattle.texels.specs.Texels.{decoded_of, encoded_of}
 use Rattle.blocks.specs.Blocks.{TexelsIn, word_from, BlockRead, read_more, as_three}
-use borrow.Author.Rules.{rules}
 use Rattle.blocks.proofs.read_r8g8b8.Goals as goal
 
 fours : (len from n : ℕ) → from + n * 3 ≤ len → TexelsIn len from 3 4 (n - 1)

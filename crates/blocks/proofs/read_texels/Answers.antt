@@ -7,7 +7,6 @@ use Rattle.formats.specs.Table.{parts_of, bytes_of}
 use Rattle.formats.specs.Classes.{rgb_formats, argb_sources, is_convertible_rgb, is_argb_source, is_lane_source}
 use Rattle.formats.specs.Listed.{no_arm}
 use Rattle.blocks.specs.Blocks.{room_arm, each_arm, read_arm}
-use borrow.Author.Rules.{rules}
 use Rattle.blocks.proofs.read_texels.Goals as goal
 
 pub read_r8g8b8-requires : goal.read_r8g8b8-requires

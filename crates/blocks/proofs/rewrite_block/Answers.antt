@@ -1,7 +1,7 @@
 -- `blocks::rewrite_block` meets its contract: texel by texel, with both offsets carried. Assumes nothing.
 use mathlib.Core.Path.{◌≡◌, refl, sym, ap, ◌∙◌, subst}
 use mathlib.Core.List.{List}
-use Prim.Native.Nat.{ℕ, ◌+◌, ◌-◌, ◌≤◌}
+use Prim.Native.Nat.{ℕ, ◌+◌, ◌≤◌}
 use native.Mathlib.Nat.{le_antisymm}
 use native.Mathlib.Omega.{arith}
 use lib.ListN.{length, take, drop, length-take, length-drop}
@@ -13,7 +13,7 @@ use Rattle.formats.specs.Codes.{A8R8G8B8}
 use Rattle.formats.specs.Table.{bytes_of}
 use Rattle.texels.specs.Texels.{decoded_of, encoded_bytes}
 use Rattle.texels.specs.Words.{texel_back}
-use Rattle.blocks.specs.Blocks.{WordsWritten, WordsRewritten, word_in, once_more, write_more, each_in}
+use Rattle.blocks.specs.Blocks.{WordsWritten, word_in, once_more, write_more, each_in}
 use borrow.Author.Rules.{rules}
 use Rattle.blocks.proofs.rewrite_block.Goals as goal
 

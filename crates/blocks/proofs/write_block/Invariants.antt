@@ -1,16 +1,7 @@
-use mathlib.Core.Path.{◌≡◌, refl, sym, ap, ◌∙◌, subst}
-use Prim.Native.Nat.{ℕ, ◌+◌, ◌-◌, ◌≤◌}
-use native.Mathlib.Nat.{le_antisymm}
-use native.Mathlib.Omega.{arith}
-use lib.ListN.{length, length-take, length-drop}
-use lib.Seq.{length-sets}
-use Rattle.words.specs.Iterate.{iterate_zero}
-use Rattle.formats.specs.Codes.{A8R8G8B8}
-use Rattle.formats.specs.Table.{bytes_of}
-use Rattle.texels.specs.Texels.{decoded_of, encoded_bytes}
-use Rattle.texels.specs.Words.{texel_back}
-use Rattle.blocks.specs.Blocks.{WordsWritten, word_of, write_more, each_in}
-use borrow.Author.Rules.{rules}
+use mathlib.Core.Path.{◌≡◌}
+use Prim.Native.Nat.{◌-◌, ◌≤◌}
+use lib.ListN.{length}
+use Rattle.blocks.specs.Blocks.{WordsWritten, word_of}
 use Rattle.blocks.proofs.write_block.Given as goal
 
 abbrev pub invariant-loop-i : goal.invariant-loop-i

@@ -5,7 +5,6 @@ use Rattle.formats.specs.Table.{parts_of, bytes_of}
 use Rattle.formats.specs.Classes.{rgb_formats, is_convertible_rgb}
 use Rattle.formats.specs.Listed.{no_arm}
 use Rattle.blocks.specs.Blocks.{room_arm, write_arm}
-use borrow.Author.Rules.{rules}
 use Rattle.blocks.proofs.write_texels.Goals as goal
 
 pub write_block-requires : goal.write_block-requires

@@ -1,7 +1,6 @@
 -- `boundary::fill_number` meets its contract: by the two replies. Assumes nothing.
 use mathlib.Core.Path.{sym, ap}
 use Rattle.convert.specs.Fill.{reply_number}
-use borrow.Author.Rules.{rules}
 use Rattle.boundary.proofs.fill_number.Goals as goal
 
 pub returns-in-Filled : goal.returns-in-Filled

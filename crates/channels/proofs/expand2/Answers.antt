@@ -3,8 +3,7 @@ use mathlib.Core.Path.{refl, sym, ◌∙◌}
 use Prim.Native.Nat.{◌%◌}
 use native.Mathlib.Nat.{mul_comm}
 use native.Mathlib.Omega.{arith}
-use Rattle.channels.specs.Expansion.{expanded_whole}
-use borrow.Author.Rules.{rules}
+use Rattle.channels.proofs.ExpansionLaws.{expanded_whole}
 use Rattle.channels.proofs.expand2.Goals as goal
 
 pub returns : goal.returns

@@ -6,7 +6,6 @@ use native.Mathlib.Nat.{le_of_lt, div-le_self, div-eq_of_lt, mul_comm, mul_assoc
 use native.Mathlib.Omega.{arith}
 use lib.Pow.{pow_pos, shr-shr}
 use lib.Ieee.{binary32, of_bits}
-use borrow.Author.Rules.{rules}
 use Rattle.words.specs.Tests.{split}
 use Rattle.channels.specs.Nearest.{rounded, rounded_none, rounded_whole, rounded_same, rounded_halved}
 use Rattle.channels.specs.Floats.{clamped, bottom_pos, as_zero, high_pattern, small_pattern, normal_pattern}

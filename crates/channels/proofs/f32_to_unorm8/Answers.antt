@@ -3,8 +3,8 @@ use Prim.Native.Nat.{◌*◌, ◌≤◌}
 use native.Mathlib.Nat.{mul-le-mul_left}
 use native.Mathlib.Omega.{arith}
 use lib.Ieee.{Float, binary32, of_bits}
-use borrow.Author.Rules.{rules}
-use Rattle.channels.specs.Nearest.{rounded, rounded_le, is_up}
+use Rattle.channels.specs.Nearest.{rounded, rounded_le}
+use Rattle.channels.proofs.NearestLaws.{is_up}
 use Rattle.channels.specs.Floats.{clamped, bottom_pos, top_le}
 use Rattle.channels.proofs.f32_to_unorm8.Goals as goal
 
@@ -19,4 +19,4 @@ pub returns : goal.returns
 returns c =
     let x = of_bits binary32 c.args.bits in
     let both = is_up (255 * (clamped x).top) (clamped x).bottom c.f32_to_nearest_code.result (bottom_pos x) c.f32_to_nearest_code.ensures in
-    record { is = both.0; nearest = both.1; }
+    record { is = both.0; nearest = both.1 }

@@ -1,7 +1,6 @@
 -- `channels::luminance` meets its contract: the code computes the definition, and nothing wraps. Assumes nothing.
 use mathlib.Core.Path.{refl}
 use Rattle.channels.specs.Luminance.{luminance_of}
-use borrow.Author.Rules.{rules}
 use Rattle.channels.proofs.luminance.Goals as goal
 
 pub returns : goal.returns

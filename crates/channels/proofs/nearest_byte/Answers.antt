@@ -3,8 +3,8 @@ use mathlib.Core.Path.{◌≡◌, ap}
 use Prim.Native.Nat.{ℕ, ◌+◌, ◌*◌, ◌/◌, ◌<◌}
 use native.Mathlib.Nat.{div-lt_iff_lt-mul}
 use native.Mathlib.Omega.{arith}
-use Rattle.channels.specs.Nearest.{rounded, is_up}
-use borrow.Author.Rules.{rules}
+use Rattle.channels.specs.Nearest.{rounded}
+use Rattle.channels.proofs.NearestLaws.{is_up}
 use Rattle.channels.proofs.nearest_byte.Goals as goal
 
 doubled : (k m : ℕ) → (510 * k + m) / (2 * m) ≡ rounded (255 * k) m
@@ -25,4 +25,4 @@ overflow_cast-result c =
 pub returns : goal.returns
 returns c =
     let both = is_up (255 * c.args.code) c.args.max _ c.requires.1 (doubled c.args.code c.args.max) in
-    record { is = both.0; nearest = both.1; }
+    record { is = both.0; nearest = both.1 }

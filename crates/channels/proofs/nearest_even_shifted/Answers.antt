@@ -6,7 +6,6 @@ use native.Mathlib.Omega.{arith}
 use lib.Pow.{pow_pos, pow-lt}
 use lib.Ieee.Nearest.{closest}
 use Rattle.channels.specs.Even.{closest_added}
-use borrow.Author.Rules.{rules}
 use Rattle.channels.proofs.Shifts.{one_shifted}
 use Rattle.channels.proofs.nearest_even_shifted.Goals as goal
 

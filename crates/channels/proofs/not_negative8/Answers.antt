@@ -5,7 +5,8 @@ use Prim.Native.Nat.{ℕ, ◌*◌, ◌-◌, ◌/◌, ◌≤◌, ◌<◌}
 use native.Mathlib.Omega.{arith}
 use native.Mathlib.Nat.{one-mul, zero-mul}
 use Rattle.words.specs.Tests.{split}
-use Rattle.channels.specs.Exact.{not_negative, positive, negative}
+use Rattle.channels.specs.Exact.{not_negative}
+use Rattle.channels.proofs.ExactLaws.{positive, negative}
 use Rattle.channels.proofs.not_negative8.Goals as goal
 
 pub record Sign (k : ℕ) : Type 0 where

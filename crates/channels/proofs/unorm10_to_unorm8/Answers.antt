@@ -2,10 +2,9 @@
 use mathlib.Core.Path.{refl}
 use Prim.Native.Nat.{◌*◌, ◌%◌}
 use Rattle.channels.specs.Nearest.{is_odd}
-use borrow.Author.Rules.{rules}
 use Rattle.channels.proofs.unorm10_to_unorm8.Goals as goal
 
 pub returns : goal.returns
 returns c =
     let both = is_odd (255 * (c.args.v % 1024)) 1023 _ refl c.nearest_byte.ensures.is in
-    record { is = both.0; nearest = both.1; }
+    record { is = both.0; nearest = both.1 }

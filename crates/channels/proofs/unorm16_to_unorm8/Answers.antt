@@ -2,7 +2,6 @@
 use mathlib.Core.Path.{◌≡◌, refl, ◌∙◌}
 use Prim.Native.Nat.{ℕ, ◌+◌, ◌*◌, ◌/◌, ◌<◌}
 use native.Mathlib.Omega.{arith}
-use borrow.Author.Rules.{rules}
 use Rattle.channels.specs.Nearest.{rounded_by_half, is_odd}
 use Rattle.channels.proofs.unorm16_to_unorm8.Goals as goal
 
@@ -12,4 +11,4 @@ by_product v h = omega arith
 pub returns : goal.returns
 returns c =
     let both = is_odd c.args.v 257 _ refl (by_product c.args.v (omega arith) ∙ rounded_by_half c.args.v 128) in
-    record { is = both.0; nearest = both.1; }
+    record { is = both.0; nearest = both.1 }

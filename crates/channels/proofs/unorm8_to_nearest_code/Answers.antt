@@ -23,4 +23,4 @@ pub returns : goal.returns
 returns c =
     let n = c.args.channel * c.args.max in
     let both = is_odd n 255 _ refl (rounded_by_half n 127) in
-    record { is = both.0; nearest = both.1; }
+    record { is = both.0; nearest = both.1 }

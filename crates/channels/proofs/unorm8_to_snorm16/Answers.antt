@@ -1,7 +1,6 @@
 -- `channels::unorm8_to_snorm16` meets its contract: the nearest code of the maximum 32767. Assumes nothing.
 use Prim.Native.Nat.{◌*◌}
 use native.Mathlib.Omega.{arith}
-use borrow.Author.Rules.{rules}
 use Rattle.channels.specs.Nearest.{rounded_le}
 use Rattle.channels.proofs.unorm8_to_snorm16.Goals as goal
 

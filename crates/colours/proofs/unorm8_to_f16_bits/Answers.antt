@@ -1,7 +1,6 @@
 -- `colours::unorm8_to_f16_bits` meets its contract: the binary16 pattern of the quotient's bits. Assumes nothing.
 use mathlib.Core.Path.{ap, ◌∙◌}
 use Rattle.binary16.specs.Half.{half_of}
-use borrow.Author.Rules.{rules}
 use Rattle.colours.proofs.unorm8_to_f16_bits.Goals as goal
 
 pub returns : goal.returns

@@ -2,7 +2,6 @@
 use mathlib.Core.Path.{◌≡◌, refl, ap}
 use lib.IntN.{pos}
 use lib.Ieee.{Float, binary32, of_int, of_bits, div}
-use borrow.Author.Rules.{rules}
 use Rattle.colours.proofs.unorm8_to_f32.Goals as goal
 
 literal : of_bits binary32 0x437f_0000 ≡ of_int binary32 (pos 255)

@@ -3,7 +3,6 @@ use mathlib.Core.Path.{sym, ap, subst}
 use mathlib.Core.Bool.{not}
 use lib.Dec.{T}
 use lib.Ieee.{Float, binary32, is_nan, to_bits}
-use borrow.Author.Rules.{rules}
 use Rattle.colours.specs.Color.{unorm_number}
 use Rattle.colours.proofs.unorm8_to_f32_bits.Goals as goal
 

@@ -62,7 +62,7 @@ returns-in-35 c =
     let e = c.channels_of-c.ensures in
     let s = c.args in
     let both = arm s.color s.d3d_format 35 4 c.pack_a2_rgb10.result c.fill4.result c.in-35.is tt refl (omega (arith, c.pack_a2_rgb10.ensures, ap (nearest_code 3) e.alpha, ap (nearest_code 1023) e.red, ap (nearest_code 1023) e.green, ap (nearest_code 1023) e.blue)) c.fill4.ensures in
-    record { bytes = both.0; length = both.1.0; reply = both.1.1; }
+    record { bytes = both.0; length = both.1.0; reply = both.1.1 }
 
 pub returns-in-31 : goal.returns-in-31
 unfolding bytes_of parts_of word_of
@@ -70,7 +70,7 @@ returns-in-31 c =
     let e = c.channels_of-c.ensures in
     let s = c.args in
     let both = arm s.color s.d3d_format 31 4 c.pack_a2_rgb10-in-31.result c.fill4-in-31.result c.in-31.is tt refl (omega (arith, c.pack_a2_rgb10-in-31.ensures, ap (nearest_code 3) e.alpha, ap (nearest_code 1023) e.red, ap (nearest_code 1023) e.green, ap (nearest_code 1023) e.blue)) c.fill4-in-31.ensures in
-    record { bytes = both.0; length = both.1.0; reply = both.1.1; }
+    record { bytes = both.0; length = both.1.0; reply = both.1.1 }
 
 pub returns-in-23 : goal.returns-in-23
 unfolding bytes_of parts_of word_of
@@ -78,7 +78,7 @@ returns-in-23 c =
     let e = c.channels_of-c.ensures in
     let s = c.args in
     let both = arm s.color s.d3d_format 23 2 c.pack_r5g6b5.result c.fill2.result c.in-23.is tt refl (omega (arith, c.pack_r5g6b5.ensures, ap (truncated 5) e.red, ap (truncated 6) e.green, ap (truncated 5) e.blue)) c.fill2.ensures in
-    record { bytes = both.0; length = both.1.0; reply = both.1.1; }
+    record { bytes = both.0; length = both.1.0; reply = both.1.1 }
 
 pub returns-in-26 : goal.returns-in-26
 unfolding bytes_of parts_of word_of
@@ -86,7 +86,7 @@ returns-in-26 c =
     let e = c.channels_of-c.ensures in
     let s = c.args in
     let both = arm s.color s.d3d_format 26 2 c.pack_a4r4g4b4.result c.fill2-in-26.result c.in-26.is tt refl (omega (arith, c.pack_a4r4g4b4.ensures, ap (truncated 4) e.alpha, ap (truncated 4) e.red, ap (truncated 4) e.green, ap (truncated 4) e.blue)) c.fill2-in-26.ensures in
-    record { bytes = both.0; length = both.1.0; reply = both.1.1; }
+    record { bytes = both.0; length = both.1.0; reply = both.1.1 }
 
 pub returns-in-50 : goal.returns-in-50
 unfolding bytes_of parts_of truncated word_of
@@ -94,7 +94,7 @@ returns-in-50 c =
     let e = c.channels_of-c.ensures in
     let s = c.args in
     let both = arm s.color s.d3d_format 50 1 c.luminance.result c.fill1.result c.in-50.is tt refl (omega (arith, c.luminance.ensures, ap₂ (λ x y. luminance_of x y c.channels_of-c.result.b) e.red e.green, ap (luminance_of (s.color / 65536 % 256) (s.color / 256 % 256)) e.blue)) c.fill1.ensures in
-    record { bytes = both.0; length = both.1.0; reply = both.1.1; }
+    record { bytes = both.0; length = both.1.0; reply = both.1.1 }
 
 pub returns-in-28 : goal.returns-in-28
 unfolding bytes_of parts_of truncated word_of
@@ -102,7 +102,7 @@ returns-in-28 c =
     let e = c.channels_of-c.ensures in
     let s = c.args in
     let both = arm s.color s.d3d_format 28 1 c.channels_of-c.result.a c.fill1-in-28.result c.in-28.is tt refl (omega (arith, e.alpha)) c.fill1-in-28.ensures in
-    record { bytes = both.0; length = both.1.0; reply = both.1.1; }
+    record { bytes = both.0; length = both.1.0; reply = both.1.1 }
 
 pub returns-in-60 : goal.returns-in-60
 unfolding bytes_of parts_of word_of
@@ -111,7 +111,7 @@ returns-in-60 c =
     let l = coded e.red e.green e.blue e.alpha c.snorm8_lanes.ensures in
     let s = c.args in
     let both = arm s.color s.d3d_format 60 2 c.pack_g8r8.result c.fill2-in-60.result c.in-60.is tt refl (omega (arith, l.red, l.green, l.blue, l.alpha, c.pack_g8r8.ensures)) c.fill2-in-60.ensures in
-    record { bytes = both.0; length = both.1.0; reply = both.1.1; }
+    record { bytes = both.0; length = both.1.0; reply = both.1.1 }
 
 pub returns-in-63 : goal.returns-in-63
 unfolding bytes_of parts_of word_of
@@ -120,7 +120,7 @@ returns-in-63 c =
     let l = coded e.red e.green e.blue e.alpha c.snorm8_lanes-in-63.ensures in
     let s = c.args in
     let both = arm s.color s.d3d_format 63 4 c.pack_a8b8g8r8.result c.fill4-in-63.result c.in-63.is tt refl (omega (arith, l.red, l.green, l.blue, l.alpha, c.pack_a8b8g8r8.ensures)) c.fill4-in-63.ensures in
-    record { bytes = both.0; length = both.1.0; reply = both.1.1; }
+    record { bytes = both.0; length = both.1.0; reply = both.1.1 }
 
 pub returns-in-64 : goal.returns-in-64
 unfolding bytes_of parts_of word_of
@@ -129,7 +129,7 @@ returns-in-64 c =
     let l = coded e.red e.green e.blue e.alpha c.snorm16_lanes.ensures in
     let s = c.args in
     let both = arm s.color s.d3d_format 64 4 c.pack_g16r16.result c.fill4-in-64.result c.in-64.is tt refl (omega (arith, l.red, l.green, l.blue, l.alpha, c.pack_g16r16.ensures)) c.fill4-in-64.ensures in
-    record { bytes = both.0; length = both.1.0; reply = both.1.1; }
+    record { bytes = both.0; length = both.1.0; reply = both.1.1 }
 
 pub returns-in-110 : goal.returns-in-110
 unfolding bytes_of parts_of word_of
@@ -138,7 +138,7 @@ returns-in-110 c =
     let l = coded e.red e.green e.blue e.alpha c.snorm16_lanes-in-110.ensures in
     let s = c.args in
     let both = arm s.color s.d3d_format 110 8 c.pack_a16b16g16r16.result c.fill8.result c.in-110.is tt refl (omega (arith, l.red, l.green, l.blue, l.alpha, c.pack_a16b16g16r16.ensures)) c.fill8.ensures in
-    record { bytes = both.0; length = both.1.0; reply = both.1.1; }
+    record { bytes = both.0; length = both.1.0; reply = both.1.1 }
 
 pub returns-in-114 : goal.returns-in-114
 unfolding bytes_of parts_of word_of
@@ -146,7 +146,7 @@ returns-in-114 c =
     let e = c.channels_of-c.ensures in
     let s = c.args in
     let both = arm s.color s.d3d_format 114 4 c.unorm8_to_f32_bits.result c.fill4-in-114.result c.in-114.is tt refl (omega (arith, c.unorm8_to_f32_bits.ensures, ap (lane_code float32 32) e.red)) c.fill4-in-114.ensures in
-    record { bytes = both.0; length = both.1.0; reply = both.1.1; }
+    record { bytes = both.0; length = both.1.0; reply = both.1.1 }
 
 pub returns-in-115 : goal.returns-in-115
 unfolding bytes_of parts_of word_of
@@ -155,7 +155,7 @@ returns-in-115 c =
     let l = coded e.red e.green e.blue e.alpha c.f32_lanes.ensures in
     let s = c.args in
     let both = arm s.color s.d3d_format 115 8 c.pack_g32r32.result c.fill8-in-115.result c.in-115.is tt refl (omega (arith, l.red, l.green, l.blue, l.alpha, c.pack_g32r32.ensures)) c.fill8-in-115.ensures in
-    record { bytes = both.0; length = both.1.0; reply = both.1.1; }
+    record { bytes = both.0; length = both.1.0; reply = both.1.1 }
 
 pub returns-in-116 : goal.returns-in-116
 unfolding bytes_of parts_of word_of
@@ -167,7 +167,7 @@ returns-in-116 c =
     let w = c.pack_a32b32.result * 18446744073709551616 + c.pack_g32r32-in-116.result in
     let both = arm s.color s.d3d_format 116 16 w c.fill16.result c.in-116.is tt refl
     (omega (arith, l.red, l.green, h.blue, h.alpha, c.pack_a32b32.ensures, c.pack_g32r32-in-116.ensures)) c.fill16.ensures in
-    record { bytes = both.0; length = both.1.0; reply = both.1.1; }
+    record { bytes = both.0; length = both.1.0; reply = both.1.1 }
 
 pub returns-in-111 : goal.returns-in-111
 unfolding bytes_of parts_of word_of
@@ -175,7 +175,7 @@ returns-in-111 c =
     let e = c.channels_of-c.ensures in
     let s = c.args in
     let both = arm s.color s.d3d_format 111 2 c.unorm8_to_f16_bits.result c.fill2-in-111.result c.in-111.is tt refl (omega (arith, c.unorm8_to_f16_bits.ensures, ap (lane_code float16 16) e.red)) c.fill2-in-111.ensures in
-    record { bytes = both.0; length = both.1.0; reply = both.1.1; }
+    record { bytes = both.0; length = both.1.0; reply = both.1.1 }
 
 pub returns-in-34 : goal.returns-in-34
 unfolding bytes_of parts_of word_of
@@ -184,7 +184,7 @@ returns-in-34 c =
     let l = coded e.red e.green e.blue e.alpha c.unorm16_lanes.ensures in
     let s = c.args in
     let both = arm s.color s.d3d_format 34 4 c.pack_g16r16-in-34.result c.fill4-in-34.result c.in-34.is tt refl (omega (arith, l.red, l.green, l.blue, l.alpha, c.pack_g16r16-in-34.ensures)) c.fill4-in-34.ensures in
-    record { bytes = both.0; length = both.1.0; reply = both.1.1; }
+    record { bytes = both.0; length = both.1.0; reply = both.1.1 }
 
 pub returns-in-36 : goal.returns-in-36
 unfolding bytes_of parts_of word_of
@@ -193,7 +193,7 @@ returns-in-36 c =
     let l = coded e.red e.green e.blue e.alpha c.unorm16_lanes-in-36.ensures in
     let s = c.args in
     let both = arm s.color s.d3d_format 36 8 c.pack_a16b16g16r16-in-36.result c.fill8-in-36.result c.in-36.is tt refl (omega (arith, l.red, l.green, l.blue, l.alpha, c.pack_a16b16g16r16-in-36.ensures)) c.fill8-in-36.ensures in
-    record { bytes = both.0; length = both.1.0; reply = both.1.1; }
+    record { bytes = both.0; length = both.1.0; reply = both.1.1 }
 
 pub returns-in-112 : goal.returns-in-112
 unfolding bytes_of parts_of word_of
@@ -202,7 +202,7 @@ returns-in-112 c =
     let l = coded e.red e.green e.blue e.alpha c.f16_lanes.ensures in
     let s = c.args in
     let both = arm s.color s.d3d_format 112 4 c.pack_g16r16-in-112.result c.fill4-in-112.result c.in-112.is tt refl (omega (arith, l.red, l.green, l.blue, l.alpha, c.pack_g16r16-in-112.ensures)) c.fill4-in-112.ensures in
-    record { bytes = both.0; length = both.1.0; reply = both.1.1; }
+    record { bytes = both.0; length = both.1.0; reply = both.1.1 }
 
 pub returns-in-113 : goal.returns-in-113
 unfolding bytes_of parts_of word_of
@@ -211,7 +211,7 @@ returns-in-113 c =
     let l = coded e.red e.green e.blue e.alpha c.f16_lanes-in-113.ensures in
     let s = c.args in
     let both = arm s.color s.d3d_format 113 8 c.pack_a16b16g16r16-in-113.result c.fill8-in-113.result c.in-113.is tt refl (omega (arith, l.red, l.green, l.blue, l.alpha, c.pack_a16b16g16r16-in-113.ensures)) c.fill8-in-113.ensures in
-    record { bytes = both.0; length = both.1.0; reply = both.1.1; }
+    record { bytes = both.0; length = both.1.0; reply = both.1.1 }
 
 pub returns-in-21-to-22 : goal.returns-in-21-to-22
 unfolding bytes_of parts_of truncated word_of
@@ -222,7 +222,7 @@ returns-in-21-to-22 c =
     (arm s.color 21 21 4 s.color c.fill4-in-21-to-22.result refl tt refl (omega (arith, w)) c.fill4-in-21-to-22.ensures)
     (arm s.color 22 22 4 s.color c.fill4-in-21-to-22.result refl tt refl (omega (arith, w)) c.fill4-in-21-to-22.ensures)
     c.in-21-to-22.if-code-lt21-own.false c.in-21-to-22.if-code-lt23-own.true in
-    record { bytes = both.0; length = both.1.0; reply = both.1.1; }
+    record { bytes = both.0; length = both.1.0; reply = both.1.1 }
 
 pub returns-in-25 : goal.returns-in-25
 unfolding bytes_of parts_of word_of
@@ -235,7 +235,7 @@ returns-in-25 c =
     (arm s.color 24 24 2 w.result c.fill2-in-25.result refl tt refl (omega (arith, w.ensures, ap (truncated 1) e.alpha, ap (truncated 5) e.red, ap (truncated 5) e.green, ap (truncated 5) e.blue)) c.fill2-in-25.ensures)
     (arm s.color 25 25 2 w.result c.fill2-in-25.result refl tt refl (omega (arith, w.ensures, ap (truncated 1) e.alpha, ap (truncated 5) e.red, ap (truncated 5) e.green, ap (truncated 5) e.blue)) c.fill2-in-25.ensures)
     (lt_of_le-ne c.in-25.if-code-lt23-own.false (λ d. not_key s.d3d_format 23 keys tt n (sym d))) c.in-25.if-code-lt26-own.true in
-    record { bytes = both.0; length = both.1.0; reply = both.1.1; }
+    record { bytes = both.0; length = both.1.0; reply = both.1.1 }
 
 pub returns-in-32-to-33 : goal.returns-in-32-to-33
 unfolding bytes_of parts_of truncated word_of
@@ -248,7 +248,7 @@ returns-in-32-to-33 c =
     (arm s.color 32 32 4 w.result c.fill4-in-32-to-33.result refl tt refl (omega (arith, w.ensures, e.red, e.green, e.blue, e.alpha)) c.fill4-in-32-to-33.ensures)
     (arm s.color 33 33 4 w.result c.fill4-in-32-to-33.result refl tt refl (omega (arith, w.ensures, e.red, e.green, e.blue, e.alpha)) c.fill4-in-32-to-33.ensures)
     (lt_of_le-ne c.in-32-to-33.if-code-lt31-own.false (λ d. not_key s.d3d_format 31 keys tt n (sym d))) c.in-32-to-33.if-code-lt34-own.true in
-    record { bytes = both.0; length = both.1.0; reply = both.1.1; }
+    record { bytes = both.0; length = both.1.0; reply = both.1.1 }
 
 pub returns-in_default : goal.returns-in_default
 returns-in_default c =
@@ -260,4 +260,4 @@ returns-in_default c =
     ] in
     let s = c.args in
     let both = no_arm s.color s.d3d_format c.no_fill.result (outside s.d3d_format c.in_default-1.rest ranges) c.no_fill.ensures in
-    record { bytes = both.0; length = both.1.0; reply = both.1.1; }
+    record { bytes = both.0; length = both.1.0; reply = both.1.1 }

@@ -1,10 +1,9 @@
 -- `convert_reply::bad_planar_shape` meets its contract: each test is one of the definition's. Assumes nothing.
 use mathlib.Core.Path.{◌≡◌, refl, sym, ◌∙◌}
 use mathlib.Core.Bool.{true}
-use borrow.Author.Tests.{eq-eqb, ne_eqb, not-true, not-false}
+use borrow.Author.Tests.{eq-eqb, ne_eqb}
 use Rattle.formats.specs.Classes.{is_planar_yuv}
 use Rattle.convert_reply.specs.Replies.{bad_planar_shape}
-use borrow.Author.Rules.{rules}
 use Rattle.convert_reply.proofs.bad_planar_shape.Goals as goal
 
 pub returns-then-not-is_planar_yuv : goal.returns-then-not-is_planar_yuv

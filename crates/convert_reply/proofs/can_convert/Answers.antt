@@ -1,7 +1,6 @@
 -- `convert_reply::can_convert` meets its contract: each test is one of the definition's. Assumes nothing.
 use mathlib.Core.Path.{refl, sym, ◌∙◌}
 use Rattle.convert_reply.specs.Replies.{can_convert}
-use borrow.Author.Rules.{rules}
 use Rattle.convert_reply.proofs.can_convert.Goals as goal
 
 pub returns-then-can_convert_update : goal.returns-then-can_convert_update

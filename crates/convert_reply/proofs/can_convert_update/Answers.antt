@@ -1,10 +1,8 @@
 -- `convert_reply::can_convert_update` meets its contract: each test is one of the definition's. Assumes nothing.
 use mathlib.Core.Path.{◌≡◌, refl, sym, ◌∙◌}
 use mathlib.Core.Bool.{Bool, true, false, ◌&&◌, ◌||◌}
-use borrow.Author.Tests.{not-true, not-false}
 use Rattle.formats.specs.Classes.{is_convertible_rgb, is_packed_yuv}
 use Rattle.convert_reply.specs.Replies.{can_convert_update}
-use borrow.Author.Rules.{rules}
 use Rattle.convert_reply.proofs.can_convert_update.Goals as goal
 
 out : (a b : Bool) → b ≡ false → false ≡ (a && b)

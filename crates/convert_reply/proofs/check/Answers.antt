@@ -1,10 +1,8 @@
 -- `convert_reply::check` meets its contract: its tests are those of the definition, in their order. Assumes nothing.
 use mathlib.Core.Path.{◌≡◌, refl, sym, ◌∙◌}
 use mathlib.Core.Bool.{true, false}
-use borrow.Author.Tests.{not-true, not-false}
 use Rattle.convert_reply.specs.Replies.{can_convert, bad_planar_shape, illegal_set, is_empty, source_inside, destination_inside, reply_to}
 use Rattle.convert_reply.specs.Passed.{convert_picture, rgb_picture, convert_rgb}
-use borrow.Author.Rules.{rules}
 use Rattle.convert_reply.proofs.check.Goals as goal
 
 pub returns-then-not-can_convert : goal.returns-then-not-can_convert

@@ -1,8 +1,6 @@
 -- `convert_reply::illegal_set` meets its contract: each test is one of the definition's. Assumes nothing.
 use mathlib.Core.Path.{◌≡◌, refl, sym, ap, ◌∙◌}
 use mathlib.Core.Bool.{true, false, not}
-use borrow.Author.Tests.{not-true, not-false}
-use borrow.Author.Rules.{rules}
 use Rattle.formats.specs.Classes.{is_yuv}
 use Rattle.convert_reply.specs.Replies.{illegal_set}
 use Rattle.convert_reply.proofs.illegal_set.Goals as goal

@@ -2,7 +2,6 @@
 use mathlib.Core.Path.{refl, ◌∙◌}
 use borrow.Author.Tests.{eq-eqb, ne_eqb}
 use Rattle.formats.specs.Codes.{A8R8G8B8}
-use borrow.Author.Rules.{rules}
 use Rattle.convert_reply.proofs.is_argb_pair.Goals as goal
 
 pub returns-then-dst_format-eq-D3DFMT_A8R8G8B8 : goal.returns-then-dst_format-eq-D3DFMT_A8R8G8B8

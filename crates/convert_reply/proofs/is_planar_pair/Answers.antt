@@ -1,6 +1,5 @@
 -- `convert_reply::is_planar_pair` meets its contract: each test is one of the definition's. Assumes nothing.
 use mathlib.Core.Path.{refl, sym, ◌∙◌}
-use borrow.Author.Rules.{rules}
 use Rattle.convert_reply.proofs.is_planar_pair.Goals as goal
 
 pub returns-then-is_planar_yuv : goal.returns-then-is_planar_yuv

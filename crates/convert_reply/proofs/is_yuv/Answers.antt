@@ -1,6 +1,5 @@
 -- `convert_reply::is_yuv` meets its contract: one class, or else the other. Assumes nothing.
 use mathlib.Core.Path.{refl, sym, ◌∙◌}
-use borrow.Author.Rules.{rules}
 use Rattle.convert_reply.proofs.is_yuv.Goals as goal
 
 pub returns-then-is_packed_yuv : goal.returns-then-is_packed_yuv

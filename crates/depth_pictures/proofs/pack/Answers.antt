@@ -6,7 +6,6 @@ use Rattle.depth_pixels.specs.Pixels.{format_code}
 use Rattle.depth_texture.specs.Replies.{refusal_of, Checked}
 use Rattle.depth_texture.specs.Planes.{packed_pixels}
 use Rattle.depth_pictures.proofs.Calls.{accepted_as, pack_refused, pack_accepted}
-use borrow.Author.Rules.{rules}
 use Rattle.depth_pictures.proofs.pack.Goals as goal
 
 pub pack_rows-requires : goal.pack_rows-requires
@@ -21,7 +20,7 @@ returns-in-Refused c =
     let g = c.args in
     let e = subst (Checked g.format _) c.in-Refused.is c.check.ensures in
     let both = pack_refused g.format g.layout g.packed.now g.packed_pitch g.depth.now g.stencil.now _ e.0 e.1 in
-    record { reply = both.0; bytes = both.1.0; nearest = both.1.1.0; kept = both.1.1.1; }
+    record { reply = both.0; bytes = both.1.0; nearest = both.1.1.0; kept = both.1.1.1 }
 
 pub returns-in-Depth : goal.returns-in-Depth
 returns-in-Depth c =
@@ -30,4 +29,4 @@ returns-in-Depth c =
     let g = c.args in
     let both = pack_accepted g.format g.layout g.packed.now g.packed_pitch g.depth.now g.stencil.now found.1 (λ i. omega (arith, c.shared_slice_known-2-1.given i)) _
     (c.pack_rows.ensures ∙ ap (λ f. packed_pixels f g.layout g.depth.now g.stencil.now g.packed_pitch g.packed.now) found.0) in
-    record { reply = both.0; bytes = both.1.0; nearest = both.1.1.0; kept = both.1.1.1; }
+    record { reply = both.0; bytes = both.1.0; nearest = both.1.1.0; kept = both.1.1.1 }

@@ -1,16 +1,10 @@
-use mathlib.Core.Path.{◌≡◌, refl, ◌∙◌}
+use mathlib.Core.Path.{◌≡◌}
 use Prim.Native.Nat.{◌-◌, ◌≤◌}
-use native.Mathlib.Nat.{le_antisymm}
-use native.Mathlib.Omega.{arith}
 use lib.ListN.{length}
-use borrow.Author.Rules.{rules}
 use Rattle.formats.specs.Table.{bytes_of}
 use Rattle.depth_pixels.specs.Pixels.{format_code}
-use Rattle.depth_pixels.specs.Pictures.{place, written, rows_none}
-use Rattle.depth_texture.specs.Refusals.{RowsWithin, rows_within}
+use Rattle.depth_pixels.specs.Pictures.{place, written}
 use Rattle.depth_pixels.specs.PixelBytes.{packed_bytes}
-use Rattle.depth_texture.specs.Planes.{packed_pixels}
-use Rattle.depth_rows.proofs.Rows.{packed_more, row_begins}
 use Rattle.depth_pictures.proofs.pack_rows.Given as goal
 
 abbrev pub invariant-loop-y : goal.invariant-loop-y

@@ -6,7 +6,6 @@ use Rattle.depth_pixels.specs.Pixels.{format_code}
 use Rattle.depth_texture.specs.Replies.{refusal_of, Checked}
 use Rattle.depth_texture.specs.Planes.{depth_plane, stencil_plane}
 use Rattle.depth_pictures.proofs.Calls.{accepted_as, unpack_refused, unpack_accepted}
-use borrow.Author.Rules.{rules}
 use Rattle.depth_pictures.proofs.unpack.Goals as goal
 
 pub unpack_rows-requires : goal.unpack_rows-requires
@@ -21,7 +20,7 @@ returns-in-Refused c =
     let g = c.args in
     let e = subst (Checked g.format _) c.in-Refused.is c.check.ensures in
     let both = unpack_refused g.format g.layout g.packed.now g.packed_pitch g.depth.now g.stencil.now _ e.0 e.1 in
-    record { reply = both.0; planes = both.1.0; restores = both.1.1.0; kept = both.1.1.1; }
+    record { reply = both.0; planes = both.1.0; restores = both.1.1.0; kept = both.1.1.1 }
 
 pub returns-in-Depth : goal.returns-in-Depth
 returns-in-Depth c =
@@ -32,4 +31,4 @@ returns-in-Depth c =
     let both = unpack_accepted g.format g.layout g.packed.now g.packed_pitch g.depth.now g.stencil.now found.1 (λ i. omega (arith, c.shared_slice_known-1.given i)) _ _
     (r.ensures.depth ∙ ap (λ f. depth_plane f g.layout g.packed.now g.packed_pitch g.depth.now) found.0)
     (r.ensures.stencil ∙ ap (λ f. stencil_plane f g.layout g.packed.now g.packed_pitch g.stencil.now) found.0) in
-    record { reply = both.0; planes = both.1.0; restores = both.1.1.0; kept = both.1.1.1; }
+    record { reply = both.0; planes = both.1.0; restores = both.1.1.0; kept = both.1.1.1 }

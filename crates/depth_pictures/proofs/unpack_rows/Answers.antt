@@ -1,17 +1,14 @@
 -- `depth_pictures::unpack_rows` meets its contract: row by row, in both planes. Assumes nothing.
-use mathlib.Core.Path.{◌≡◌, refl, ◌∙◌}
-use Prim.Native.Nat.{◌-◌, ◌≤◌}
+use mathlib.Core.Path.{refl, ◌∙◌}
 use native.Mathlib.Nat.{le_antisymm}
 use native.Mathlib.Omega.{arith}
 use lib.ListN.{length}
 use borrow.Author.Rules.{rules}
-use Rattle.formats.specs.Table.{bytes_of}
 use Rattle.depth_pixels.specs.Pixels.{format_code}
-use Rattle.depth_pixels.specs.Pictures.{place, written, rows_none}
+use Rattle.depth_pixels.specs.Pictures.{rows_none}
 use Rattle.depth_texture.specs.Refusals.{RowsWithin, rows_within}
-use Rattle.depth_pixels.specs.PixelBytes.{depth_bytes}
 use Rattle.depth_texture.specs.Planes.{depth_plane, stencil_plane}
-use Rattle.depth_rows.proofs.Rows.{stencil_rows, stencils_none, stencils_more, depths_more, row_begins}
+use Rattle.depth_rows.proofs.Rows.{stencils_none, stencils_more, depths_more, row_begins}
 use Rattle.depth_pictures.proofs.unpack_rows.Goals as goal
 
 pub loop-y-init : goal.loop-y-init
@@ -66,4 +63,4 @@ pub returns : goal.returns
 unfolding depth_plane stencil_plane
 returns c =
     let past = le_antisymm c.loop-y.invariant.4 c.loop-y-test.false in
-    record { depth = c.loop-y.invariant.0 ∙ rw past refl; stencil = c.loop-y.invariant.2 ∙ rw past refl; }
+    record { depth = c.loop-y.invariant.0 ∙ rw past refl; stencil = c.loop-y.invariant.2 ∙ rw past refl }

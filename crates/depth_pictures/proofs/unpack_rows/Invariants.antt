@@ -1,16 +1,11 @@
-use mathlib.Core.Path.{◌≡◌, refl, ◌∙◌}
+use mathlib.Core.Path.{◌≡◌}
 use Prim.Native.Nat.{◌-◌, ◌≤◌}
-use native.Mathlib.Nat.{le_antisymm}
-use native.Mathlib.Omega.{arith}
 use lib.ListN.{length}
-use borrow.Author.Rules.{rules}
 use Rattle.formats.specs.Table.{bytes_of}
 use Rattle.depth_pixels.specs.Pixels.{format_code}
-use Rattle.depth_pixels.specs.Pictures.{place, written, rows_none}
-use Rattle.depth_texture.specs.Refusals.{RowsWithin, rows_within}
+use Rattle.depth_pixels.specs.Pictures.{place, written}
 use Rattle.depth_pixels.specs.PixelBytes.{depth_bytes}
-use Rattle.depth_texture.specs.Planes.{depth_plane, stencil_plane}
-use Rattle.depth_rows.proofs.Rows.{stencil_rows, stencils_none, stencils_more, depths_more, row_begins}
+use Rattle.depth_rows.proofs.Rows.{stencil_rows}
 use Rattle.depth_pictures.proofs.unpack_rows.Given as goal
 
 abbrev pub invariant-loop-y : goal.invariant-loop-y

@@ -4,7 +4,6 @@ use lib.Dec.{T}
 use lib.Ieee.{binary32}
 use lib.Ieee.Bits.{of_bits-to_bits}
 use Rattle.depth_pixels.specs.Depth.{code_for}
-use borrow.Author.Rules.{rules}
 use Rattle.depth_pixels.proofs.code_of.Goals as goal
 
 pub float_to_bits-depth : goal.float_to_bits-depth

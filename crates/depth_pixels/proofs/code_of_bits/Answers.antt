@@ -1,7 +1,6 @@
 -- `depth_pixels::code_of_bits` meets its contract: on its scale a half up is the even one. Assumes nothing.
 use mathlib.Core.Path.{◌∙◌}
 use lib.Ieee.{binary32, of_bits}
-use borrow.Author.Rules.{rules}
 use Rattle.depth_pixels.proofs.Patterns.{code_rounded}
 use Rattle.depth_pixels.proofs.code_of_bits.Goals as goal
 

@@ -5,7 +5,6 @@ use Rattle.depth_pixels.specs.PackedFormats.{size_d16, max_d16, code_d16, stenci
 use Rattle.depth_pixels.specs.Pixels.{decoded}
 use Rattle.depth_pixels.specs.declared.PackedDepth.TheVariants.{D16}
 use Rattle.depth_pixels.proofs.Coding.{literal_16, word_read, decodes}
-use borrow.Author.Rules.{rules}
 use Rattle.depth_pixels.proofs.decode_d16.Goals as goal
 
 pub returns : goal.returns

@@ -6,7 +6,6 @@ use Rattle.formats.specs.Codes as codes
 use Rattle.depth_pixels.specs.PackedFormats.{size_d24s8, max_d24s8, code_d24s8, stencil_of_d24s8}
 use Rattle.depth_pixels.specs.Pixels.{decoded}
 use Rattle.depth_pixels.proofs.Coding.{literal_24, exact, word_read, decodes}
-use borrow.Author.Rules.{rules}
 use Rattle.depth_pixels.proofs.decode_d24s8.Goals as goal
 
 pub int_to_float-result : goal.int_to_float-result

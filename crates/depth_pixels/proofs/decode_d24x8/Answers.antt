@@ -7,7 +7,6 @@ use Rattle.depth_pixels.specs.PackedFormats.{size_d24x8, max_d24x8, code_d24x8, 
 use Rattle.depth_pixels.specs.Pixels.{decoded}
 use Rattle.depth_pixels.specs.declared.PackedDepth.TheVariants.{D24X8}
 use Rattle.depth_pixels.proofs.Coding.{literal_24, exact, word_read, decodes}
-use borrow.Author.Rules.{rules}
 use Rattle.depth_pixels.proofs.decode_d24x8.Goals as goal
 
 pub int_to_float-result : goal.int_to_float-result

@@ -4,7 +4,6 @@ use Rattle.formats.specs.Codes as codes
 use Rattle.depth_pixels.specs.PackedFormats.{size_d16, max_d16, word_d16}
 use Rattle.depth_pixels.specs.Restoration.{code_for_lem}
 use Rattle.depth_pixels.proofs.Coding.{encodes}
-use borrow.Author.Rules.{rules}
 use Rattle.depth_pixels.proofs.encode_d16.Goals as goal
 
 pub overflow_cast-code_of : goal.overflow_cast-code_of

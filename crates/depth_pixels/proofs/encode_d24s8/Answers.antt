@@ -6,7 +6,6 @@ use Rattle.formats.specs.Codes as codes
 use Rattle.depth_pixels.specs.PackedFormats.{size_d24s8, max_d24s8, word_d24s8}
 use Rattle.depth_pixels.specs.Restoration.{code_for_lem}
 use Rattle.depth_pixels.proofs.Coding.{encodes}
-use borrow.Author.Rules.{rules}
 use Rattle.depth_pixels.proofs.encode_d24s8.Goals as goal
 
 by_bytes : (c s : ℕ) → c * 256 + s ≡ c / 256 * 65536 + c % 256 * 256 + s

@@ -6,7 +6,6 @@ use Rattle.formats.specs.Codes as codes
 use Rattle.depth_pixels.specs.PackedFormats.{size_d24x8, max_d24x8, word_d24x8}
 use Rattle.depth_pixels.specs.Restoration.{code_for_lem}
 use Rattle.depth_pixels.proofs.Coding.{encodes}
-use borrow.Author.Rules.{rules}
 use Rattle.depth_pixels.proofs.encode_d24x8.Goals as goal
 
 below_unused : (c : ℕ) → c ≡ 0 * 16777216 + c

@@ -7,7 +7,6 @@ use lib.ListN.{length}
 use lib.Ieee.{binary32, to_bits}
 use Rattle.words.specs.Little.{bytes, length_bytes}
 use Rattle.words.specs.Slices.{part_back}
-use borrow.Author.Rules.{rules}
 use Rattle.depth_pixels.proofs.store_depth.Goals as goal
 
 pub returns : goal.returns

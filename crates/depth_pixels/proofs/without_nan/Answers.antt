@@ -5,8 +5,8 @@ use Rattle.depth_pixels.proofs.without_nan.Goals as goal
 
 pub returns-then-value : goal.returns-then-value
 returns-then-value c =
-    record { same = (tested_nan c.args.value.depth c.if-value.true, refl); number = zero_number; }
+    record { same = (tested_nan c.args.value.depth c.if-value.true, refl); number = zero_number }
 
 pub returns : goal.returns
 returns c =
-    record { same = (refl, refl); number = tested_number c.args.value.depth c.if-value.false; }
+    record { same = (refl, refl); number = tested_number c.args.value.depth c.if-value.false }

@@ -13,7 +13,6 @@ use Rattle.words.specs.Slices.{part_read}
 use Rattle.channels.specs.Floats.{clamped, as_zero}
 use Rattle.depth_pixels.specs.PixelBytes.{depth_at}
 use Rattle.depth_pixels.proofs.Patterns.{zero_number}
-use borrow.Author.Rules.{rules}
 use Rattle.depth_rows.proofs.load_depth.Goals as goal
 
 bits_read : (plane : List ℕ) (at bits : ℕ) → bits ≡ number (take 4 (take (length plane - at) (drop at plane))) → depth_at plane at ≡ of_bits binary32 bits
@@ -29,7 +28,7 @@ no_nan_bits b h = not_T (nan_bits binary32 b) (λ t. above b h (ltb→lt 2139095
 pub returns-then-bits-gt2139095040 : goal.returns-then-bits-gt2139095040
 returns-then-bits-gt2139095040 c =
     let g = c.args in
-    record { same = as_zero c.le32-bits.result c.if-bits-gt2139095040.true ∙ ap clamped (sym (bits_read g.plane.now g.at _ c.le32-bits.ensures)); number = zero_number; }
+    record { same = as_zero c.le32-bits.result c.if-bits-gt2139095040.true ∙ ap clamped (sym (bits_read g.plane.now g.at _ c.le32-bits.ensures)); number = zero_number }
 
 pub float_from_bits-result : goal.float_from_bits-result
 float_from_bits-result c =
@@ -39,4 +38,4 @@ pub returns : goal.returns
 returns c =
     let g = c.args in
     let b = c.le32-bits.result in
-    record { same = ap clamped (sym (bits_read g.plane.now g.at _ c.le32-bits.ensures)); number = subst (λ t. T (not t)) (nan_bits_is binary32 b) (no_nan_bits b c.if-bits-gt2139095040.false); }
+    record { same = ap clamped (sym (bits_read g.plane.now g.at _ c.le32-bits.ensures)); number = subst (λ t. T (not t)) (nan_bits_is binary32 b) (no_nan_bits b c.if-bits-gt2139095040.false) }

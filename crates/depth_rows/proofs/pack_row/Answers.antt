@@ -3,7 +3,6 @@ use mathlib.Core.Path.{◌∙◌}
 use Rattle.depth_pixels.specs.declared.PackedDepth.TheVariants.{D16, D24X8, D24S8}
 use Rattle.depth_pixels.specs.PackedFormats.{size_d16, size_d24x8, size_d24s8, stencil_d16, stencil_d24x8, stencil_d24s8}
 use Rattle.depth_rows.proofs.Arms.{row_in, stencil_in, packed_row_lem, unread_row}
-use borrow.Author.Rules.{rules}
 use Rattle.depth_rows.proofs.pack_row.Goals as goal
 
 pub pack_row_d16-requires : goal.pack_row_d16-requires

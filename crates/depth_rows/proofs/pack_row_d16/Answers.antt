@@ -1,13 +1,10 @@
 -- `depth_rows::pack_row_d16` meets its contract: column by column. Assumes nothing.
 use mathlib.Core.List.{[]}
-use Prim.Native.Nat.{◌+◌, ◌-◌, ◌*◌, ◌≤◌}
-use native.Mathlib.Omega.{arith}
-use lib.ListN.{length, length-take, length-drop}
-use borrow.Author.Rules.{rules}
+use Prim.Native.Nat.{◌+◌, ◌*◌, ◌≤◌}
+use lib.ListN.{length}
 use Rattle.formats.specs.Codes as codes
 use Rattle.depth_pixels.specs.PackedFormats.{size_d16, stencil_d16}
-use Rattle.depth_pixels.specs.PixelBytes.{packed_bytes}
-use Rattle.depth_rows.proofs.Rows.{Turn, first_turn, next_turn, last_turn, column_in, no_stencil_read, pixel_stored}
+use Rattle.depth_rows.proofs.Rows.{first_turn, next_turn, column_in, no_stencil_read, pixel_stored}
 use Rattle.depth_rows.proofs.pack_row_d16.Goals as goal
 
 pub loop-x-preserved : goal.loop-x-preserved

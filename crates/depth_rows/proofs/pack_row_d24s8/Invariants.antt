@@ -1,15 +1,13 @@
 use mathlib.Core.Path.{◌≡◌, sym, ap, ◌∙◌}
 use mathlib.Core.List.{List}
-use Prim.Native.Nat.{ℕ, ◌+◌, ◌-◌, ◌*◌, ◌≤◌}
+use Prim.Native.Nat.{ℕ, ◌+◌, ◌-◌, ◌*◌}
 use native.Mathlib.Nat.{mul-one}
-use native.Mathlib.Omega.{arith}
-use lib.ListN.{length, length-take, length-drop, get_or}
-use borrow.Author.Rules.{rules}
+use lib.ListN.{get_or}
 use Rattle.formats.specs.Codes as codes
 use Rattle.words.specs.Tests.{pick}
-use Rattle.depth_pixels.specs.PackedFormats.{size_d24s8, stencil_d24s8}
+use Rattle.depth_pixels.specs.PackedFormats.{stencil_d24s8}
 use Rattle.depth_pixels.specs.PixelBytes.{packed_bytes, stencil_at}
-use Rattle.depth_rows.proofs.Rows.{Turn, first_turn, next_turn, last_turn, column_in, pixel_stored}
+use Rattle.depth_rows.proofs.Rows.{Turn}
 use Rattle.depth_rows.proofs.pack_row_d24s8.Given as goal
 
 stencil_read : (plane : List ℕ) (at x : ℕ) → get_or plane (at + x) 0 ≡ stencil_at codes.D24S8 plane (at + x * 1)

@@ -1,12 +1,8 @@
 use mathlib.Core.List.{[]}
-use Prim.Native.Nat.{◌+◌, ◌-◌, ◌*◌, ◌≤◌}
-use native.Mathlib.Omega.{arith}
-use lib.ListN.{length, length-take, length-drop}
-use borrow.Author.Rules.{rules}
+use Prim.Native.Nat.{◌+◌, ◌-◌, ◌*◌}
 use Rattle.formats.specs.Codes as codes
-use Rattle.depth_pixels.specs.PackedFormats.{size_d24x8, stencil_d24x8}
 use Rattle.depth_pixels.specs.PixelBytes.{packed_bytes}
-use Rattle.depth_rows.proofs.Rows.{Turn, first_turn, next_turn, last_turn, column_in, no_stencil_read, pixel_stored}
+use Rattle.depth_rows.proofs.Rows.{Turn}
 use Rattle.depth_rows.proofs.pack_row_d24x8.Given as goal
 
 abbrev pub invariant-loop-x : goal.invariant-loop-x

@@ -3,7 +3,6 @@ use mathlib.Core.Path.{◌∙◌}
 use Rattle.depth_pixels.specs.declared.PackedDepth.TheVariants.{D16, D24X8, D24S8}
 use Rattle.depth_pixels.specs.PackedFormats.{size_d16, size_d24x8, size_d24s8, stencil_d16, stencil_d24x8, stencil_d24s8}
 use Rattle.depth_rows.proofs.Arms.{row_in, stencil_in, depth_row_lem, stencil_row_lem, no_stencil_row}
-use borrow.Author.Rules.{rules}
 use Rattle.depth_rows.proofs.unpack_row.Goals as goal
 
 pub unpack_row_d16-requires : goal.unpack_row_d16-requires
@@ -32,16 +31,16 @@ pub returns-in-D16 : goal.returns-in-D16
 returns-in-D16 c =
     let g = c.args in
     let m = c.in-D16.is in
-    let r = c.unpack_row_d16 in record { depth = r.ensures ∙ depth_row_lem _ D16 2 m size_d16 g.packed.now g.from g.to g.width g.depth.now; stencil = no_stencil_row _ D16 2 m size_d16 stencil_d16 g.packed.now g.from g.at g.width g.stencil.now; }
+    let r = c.unpack_row_d16 in record { depth = r.ensures ∙ depth_row_lem _ D16 2 m size_d16 g.packed.now g.from g.to g.width g.depth.now; stencil = no_stencil_row _ D16 2 m size_d16 stencil_d16 g.packed.now g.from g.at g.width g.stencil.now }
 
 pub returns-in-D24X8 : goal.returns-in-D24X8
 returns-in-D24X8 c =
     let g = c.args in
     let m = c.in-D24X8.is in
-    let r = c.unpack_row_d24x8 in record { depth = r.ensures ∙ depth_row_lem _ D24X8 4 m size_d24x8 g.packed.now g.from g.to g.width g.depth.now; stencil = no_stencil_row _ D24X8 4 m size_d24x8 stencil_d24x8 g.packed.now g.from g.at g.width g.stencil.now; }
+    let r = c.unpack_row_d24x8 in record { depth = r.ensures ∙ depth_row_lem _ D24X8 4 m size_d24x8 g.packed.now g.from g.to g.width g.depth.now; stencil = no_stencil_row _ D24X8 4 m size_d24x8 stencil_d24x8 g.packed.now g.from g.at g.width g.stencil.now }
 
 pub returns-in-D24S8 : goal.returns-in-D24S8
 returns-in-D24S8 c =
     let g = c.args in
     let m = c.in-D24S8.is in
-    let r = c.unpack_row_d24s8 in record { depth = r.ensures.depth ∙ depth_row_lem _ D24S8 4 m size_d24s8 g.packed.now g.from g.to g.width g.depth.now; stencil = r.ensures.stencil ∙ stencil_row_lem _ D24S8 4 m size_d24s8 stencil_d24s8 g.packed.now g.from g.at g.width g.stencil.now; }
+    let r = c.unpack_row_d24s8 in record { depth = r.ensures.depth ∙ depth_row_lem _ D24S8 4 m size_d24s8 g.packed.now g.from g.to g.width g.depth.now; stencil = r.ensures.stencil ∙ stencil_row_lem _ D24S8 4 m size_d24s8 stencil_d24s8 g.packed.now g.from g.at g.width g.stencil.now }

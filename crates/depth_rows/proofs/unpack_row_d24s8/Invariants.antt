@@ -1,12 +1,7 @@
-use mathlib.Core.Path.{◌∙◌}
-use Prim.Native.Nat.{◌+◌, ◌-◌, ◌*◌, ◌≤◌}
-use native.Mathlib.Omega.{arith}
-use lib.ListN.{length, length-take, length-drop}
-use borrow.Author.Rules.{rules}
+use Prim.Native.Nat.{◌+◌, ◌-◌, ◌*◌}
 use Rattle.formats.specs.Codes as codes
-use Rattle.depth_pixels.specs.declared.PackedDepth.TheVariants.{D24S8}
 use Rattle.depth_pixels.specs.PixelBytes.{depth_bytes, stencil_bytes}
-use Rattle.depth_rows.proofs.Rows.{Turn, first_turn, next_turn, last_turn, column_in, depth_stored, stencil_stored, decoded_no_nan}
+use Rattle.depth_rows.proofs.Rows.{Turn}
 use Rattle.depth_rows.proofs.unpack_row_d24s8.Given as goal
 
 abbrev pub invariant-loop-x : goal.invariant-loop-x

@@ -1,13 +1,10 @@
 -- `depth_rows::unpack_row_d24x8` meets its contract: column by column. Assumes nothing.
 use mathlib.Core.Path.{◌∙◌}
-use Prim.Native.Nat.{◌+◌, ◌-◌, ◌*◌, ◌≤◌}
-use native.Mathlib.Omega.{arith}
-use lib.ListN.{length, length-take, length-drop}
-use borrow.Author.Rules.{rules}
+use Prim.Native.Nat.{◌+◌, ◌*◌, ◌≤◌}
+use lib.ListN.{length}
 use Rattle.formats.specs.Codes as codes
 use Rattle.depth_pixels.specs.declared.PackedDepth.TheVariants.{D24X8}
-use Rattle.depth_pixels.specs.PixelBytes.{depth_bytes}
-use Rattle.depth_rows.proofs.Rows.{Turn, first_turn, next_turn, last_turn, column_in, depth_stored, decoded_no_nan}
+use Rattle.depth_rows.proofs.Rows.{first_turn, next_turn, column_in, depth_stored, decoded_no_nan}
 use Rattle.depth_rows.proofs.unpack_row_d24x8.Goals as goal
 
 pub store_depth-requires : goal.store_depth-requires

@@ -5,7 +5,6 @@ use native.Mathlib.Nat.{le-div_iff_mul-le, div-lt_iff_lt-mul, mul-zero}
 use native.Mathlib.Omega.{arith}
 use borrow.Author.Tests.{le-leb}
 use Rattle.words.specs.Tests.{leb_same}
-use borrow.Author.Rules.{rules}
 use Rattle.depth_texture.proofs.fits.Goals as goal
 
 pub returns-then-b-eq0 : goal.returns-then-b-eq0

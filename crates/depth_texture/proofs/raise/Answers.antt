@@ -3,7 +3,6 @@ use mathlib.Core.Path.{refl}
 use Prim.Native.Nat.{◌+◌, ◌-◌}
 use native.Mathlib.Omega.{arith}
 use native.Mathlib.Nat.{div-mul-le_self}
-use borrow.Author.Rules.{rules}
 use Rattle.words.specs.Multiples.{raised}
 use Rattle.depth_texture.proofs.raise.Goals as goal
 

@@ -3,7 +3,6 @@ use mathlib.Core.Path.{sym, ◌∙◌}
 use Rattle.formats.specs.Listed.{not_lane}
 use Rattle.yuv_sets.specs.Legal.{legal}
 use Rattle.convert_reply.specs.Passed.{legal_of, convert_yuv}
-use borrow.Author.Rules.{rules}
 use Rattle.pixel_convert.proofs.convert_row.Goals as goal
 
 pub block_row-requires : goal.block_row-requires

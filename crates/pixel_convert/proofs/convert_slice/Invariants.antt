@@ -1,12 +1,8 @@
-use mathlib.Core.Path.{◌≡◌, refl, sym, ◌∙◌, subst}
-use Prim.Native.Nat.{ℕ, ◌-◌, ◌≤◌}
-use native.Mathlib.Nat.{le_antisymm}
-use native.Mathlib.Omega.{arith}
+use mathlib.Core.Path.{◌≡◌}
+use Prim.Native.Nat.{◌-◌, ◌≤◌}
 use lib.ListN.{length}
-use Rattle.words.specs.Iterate.{iterate, iterate_zero, iterate_step}
-use Rattle.regions.specs.Regions.{row_written, slice_written}
-use Rattle.regions.specs.Rows.{RowFits}
-use borrow.Author.Rules.{rules}
+use Rattle.words.specs.Iterate.{iterate}
+use Rattle.regions.specs.Regions.{row_written}
 use Rattle.pixel_convert.proofs.convert_slice.Given as goal
 
 abbrev pub invariant-loop-row : goal.invariant-loop-row

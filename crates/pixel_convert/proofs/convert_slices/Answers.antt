@@ -1,10 +1,11 @@
 -- `pixel_convert::convert_slices` meets its contract: slice by slice. Assumes nothing.
-use mathlib.Core.Path.{◌≡◌, refl, sym, ◌∙◌, subst}
-use Prim.Native.Nat.{ℕ, ◌-◌, ◌≤◌}
+use mathlib.Core.Path.{refl, sym, ◌∙◌, subst}
+use Prim.Native.Nat.{ℕ}
 use native.Mathlib.Nat.{le_antisymm}
 use native.Mathlib.Omega.{arith}
 use lib.ListN.{length}
-use Rattle.words.specs.Iterate.{iterate, iterate_zero, iterate_step}
+use Rattle.words.specs.Iterate.{iterate_zero}
+use Rattle.words.proofs.IterateLaws.{iterate_step}
 use Rattle.regions.specs.Regions.{slice_written, region_written}
 use Rattle.regions.specs.Rows.{RowFits}
 use borrow.Author.Rules.{rules}

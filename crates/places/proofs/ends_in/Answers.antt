@@ -3,7 +3,6 @@ use mathlib.Core.Path.{◌≡◌, sym, ◌∙◌}
 use Prim.Native.Nat.{◌+◌, ◌*◌}
 use native.Mathlib.Omega.{arith}
 use Rattle.places.specs.Rooms.{room_none, room_left, ends_out, ends_left}
-use borrow.Author.Rules.{rules}
 use Rattle.places.proofs.ends_in.Goals as goal
 
 pub returns-in-Outside : goal.returns-in-Outside

@@ -2,8 +2,8 @@
 use mathlib.Core.Path.{sym, ◌∙◌}
 use Prim.Native.Nat.{◌+◌, ◌-◌}
 use native.Mathlib.Omega.{arith}
-use Rattle.places.specs.Inside.{inside_last, texel_out_x, texel_out_y, texel_in_lem}
-use borrow.Author.Rules.{rules}
+use Rattle.places.specs.Inside.{texel_out_x, texel_out_y, texel_in_lem}
+use Rattle.places.proofs.InsideLaws.{inside_last}
 use Rattle.places.proofs.inside.Goals as goal
 
 pub returns-then-x0-w : goal.returns-then-x0-w

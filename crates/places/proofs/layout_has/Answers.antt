@@ -3,11 +3,9 @@ use mathlib.Core.Path.{◌≡◌, sym, ap, ◌∙◌, subst}
 use mathlib.Core.Bool.{true}
 use Prim.Native.Nat.{ℕ, ◌≤◌, ◌<◌}
 use lib.Dec.{ltb}
-use borrow.Author.Tests.{not-true, not-false}
 use Rattle.planar_yuv.specs.Offsets.{contains, contains_is, luma_offset_at}
 use Rattle.planar_yuv.specs.Answers.{TexelOf}
 use Rattle.places.specs.Planar.{has_not, has_no_luma, has_no_u, has_v}
-use borrow.Author.Rules.{rules}
 use Rattle.places.proofs.layout_has.Goals as goal
 
 pub returns-then-not-contains : goal.returns-then-not-contains

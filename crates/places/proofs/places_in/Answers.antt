@@ -9,7 +9,6 @@ use Rattle.formats.specs.Classes.{is_planar_yuv}
 use Rattle.formats.specs.Listed.{lane_some}
 use Rattle.places.specs.Places.{texel_start, places_in}
 use Rattle.places.specs.Inside.{run_in, lane_places, packed_places_lem, planar_places_lem, lanes_left}
-use borrow.Author.Rules.{rules}
 use Rattle.places.proofs.places_in.Goals as goal
 
 pub returns-then-is_planar_yuv : goal.returns-then-is_planar_yuv

@@ -3,7 +3,6 @@ use mathlib.Core.Path.{sym, ap, ◌∙◌}
 use Rattle.planar_yuv.specs.Answers.{reply_of}
 use Rattle.places.specs.Places.{places_in}
 use Rattle.places.specs.Planar.{no_pitch, no_layout, in_layout, layout_legal, absent_out}
-use borrow.Author.Rules.{rules}
 use Rattle.places.proofs.planar_has.Goals as goal
 
 pub returns-then-pitch-eq0 : goal.returns-then-pitch-eq0

@@ -4,7 +4,6 @@ use Prim.Native.Nat.{ℕ, ◌*◌, ◌-◌, ◌≤◌, ◌<◌}
 use native.Mathlib.Nat.{le-div_iff_mul-le, div-lt_iff_lt-mul, mul-zero}
 use native.Mathlib.Omega.{arith}
 use Rattle.places.specs.Rooms.{room_fits, room_out}
-use borrow.Author.Rules.{rules}
 use Rattle.places.proofs.remaining_after.Goals as goal
 
 pub returns-then-b-eq0 : goal.returns-then-b-eq0

@@ -1,7 +1,6 @@
 -- `places::u_offset` meets its contract: the two formats have their own offsets. Assumes nothing.
 use mathlib.Core.Path.{◌∙◌}
 use Rattle.places.specs.Planar.{u_yv12, u_nv12}
-use borrow.Author.Rules.{rules}
 use Rattle.places.proofs.u_offset.Goals as goal
 
 pub returns-then-d3d_format-eq-D3DFMT_YV12 : goal.returns-then-d3d_format-eq-D3DFMT_YV12

@@ -3,7 +3,6 @@ use mathlib.Core.Path.{◌∙◌, ap}
 use Prim.Native.Nat.{ℕ, ◌+◌}
 use native.Mathlib.Omega.{arith}
 use Rattle.places.specs.Planar.{v_yv12, v_nv12, nv12_small}
-use borrow.Author.Rules.{rules}
 use Rattle.places.proofs.v_offset.Goals as goal
 
 pub returns-then-d3d_format-eq-D3DFMT_YV12 : goal.returns-then-d3d_format-eq-D3DFMT_YV12

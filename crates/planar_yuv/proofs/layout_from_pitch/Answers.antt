@@ -4,7 +4,6 @@ use mathlib.Core.Bool.{false}
 use mathlib.Core.List.{[], ◌∷◌}
 use mathlib.Core.Logic.{⊎_elim}
 use lib.Dec.{T}
-use borrow.Author.Rules.{rules}
 use Rattle.formats.specs.Codes.{NV12, YV12}
 use Rattle.formats.specs.Classes.{is_planar_yuv}
 use Rattle.formats.proofs.Arms.{listed_no}

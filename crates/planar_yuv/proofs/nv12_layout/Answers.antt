@@ -1,7 +1,6 @@
 -- `planar_yuv::nv12_layout` meets its contract: each way out breaks a rule, or all of them hold. Assumes nothing.
 use mathlib.Core.Path.{refl, sym}
 use native.Mathlib.Omega.{arith}
-use borrow.Author.Rules.{rules}
 use Rattle.formats.specs.Classes.{is_planar_yuv}
 use Rattle.planar_yuv.specs.Answers.{given, not_given}
 use Rattle.planar_yuv.proofs.Bounds.{product}

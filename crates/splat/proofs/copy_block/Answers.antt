@@ -1,7 +1,6 @@
 -- `splat::copy_block` meets its contract: the part is copied out, and then put at its place. Assumes nothing.
 use Prim.Native.Nat.{◌-◌}
 use native.Mathlib.Omega.{arith}
-use borrow.Author.Rules.{rules}
 use Rattle.splat.proofs.Splats.{copied}
 use Rattle.splat.proofs.copy_block.Goals as goal
 

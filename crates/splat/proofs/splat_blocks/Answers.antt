@@ -1,12 +1,11 @@
 -- `splat::splat_blocks` meets its contract: the bytes below `at`, a whole number of patterns, are the pattern's. Assumes nothing.
-use mathlib.Core.Path.{◌≡◌, refl, sym, ap, ◌∙◌}
-use Prim.Native.Nat.{◌≤◌, ◌-◌, ◌%◌}
+use mathlib.Core.Path.{refl, sym, ap, ◌∙◌}
+use Prim.Native.Nat.{◌-◌}
 use native.Mathlib.Nat.{zero-mod}
 use native.Mathlib.Omega.{arith}
 use lib.ListN.{length, length-take, length-drop}
 use lib.Seq.{sets, take_all}
-use borrow.Author.Rules.{rules}
-use Rattle.splat.proofs.Splats.{Done, done_none, done_rest, turn}
+use Rattle.splat.proofs.Splats.{done_none, done_rest, turn}
 use Rattle.splat.proofs.splat_blocks.Goals as goal
 
 pub loop-at-init : goal.loop-at-init

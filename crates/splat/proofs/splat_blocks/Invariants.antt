@@ -1,11 +1,7 @@
-use mathlib.Core.Path.{◌≡◌, refl, sym, ap, ◌∙◌}
+use mathlib.Core.Path.{◌≡◌}
 use Prim.Native.Nat.{◌≤◌, ◌-◌, ◌%◌}
-use native.Mathlib.Nat.{zero-mod}
-use native.Mathlib.Omega.{arith}
-use lib.ListN.{length, length-take, length-drop}
-use lib.Seq.{sets, take_all}
-use borrow.Author.Rules.{rules}
-use Rattle.splat.proofs.Splats.{Done, done_none, done_rest, turn}
+use lib.ListN.{length}
+use Rattle.splat.proofs.Splats.{Done}
 use Rattle.splat.proofs.splat_blocks.Given as goal
 
 abbrev pub invariant-loop-at : goal.invariant-loop-at

@@ -1,11 +1,10 @@
 -- `splat::splat_bytes` meets its contract: the bytes below `at` are the pattern's, and `phase` is `at` modulo its length. Assumes nothing.
-use mathlib.Core.Path.{◌≡◌, refl, sym, ap, ◌∙◌}
-use Prim.Native.Nat.{◌≤◌, ◌+◌, ◌-◌, ◌%◌}
+use mathlib.Core.Path.{refl, sym, ap, ◌∙◌}
+use Prim.Native.Nat.{◌+◌}
 use native.Mathlib.Nat.{mod-lt, zero-mod}
 use native.Mathlib.Omega.{arith}
 use lib.ListN.{length, get_or, length-set}
-use borrow.Author.Rules.{rules}
-use Rattle.splat.proofs.Splats.{Done, all_done, done_none, done_byte, phase_starts, phase_goes_on}
+use Rattle.splat.proofs.Splats.{all_done, done_none, done_byte, phase_starts, phase_goes_on}
 use Rattle.splat.proofs.splat_bytes.Goals as goal
 
 pub loop-at-init : goal.loop-at-init

@@ -1,10 +1,7 @@
-use mathlib.Core.Path.{◌≡◌, refl, sym, ap, ◌∙◌}
-use Prim.Native.Nat.{◌≤◌, ◌+◌, ◌-◌, ◌%◌}
-use native.Mathlib.Nat.{mod-lt, zero-mod}
-use native.Mathlib.Omega.{arith}
-use lib.ListN.{length, get_or, length-set}
-use borrow.Author.Rules.{rules}
-use Rattle.splat.proofs.Splats.{Done, all_done, done_none, done_byte, phase_starts, phase_goes_on}
+use mathlib.Core.Path.{◌≡◌}
+use Prim.Native.Nat.{◌≤◌, ◌-◌, ◌%◌}
+use lib.ListN.{length}
+use Rattle.splat.proofs.Splats.{Done}
 use Rattle.splat.proofs.splat_bytes.Given as goal
 
 abbrev pub invariant-loop-at : goal.invariant-loop-at

@@ -1,11 +1,10 @@
 -- `splat::splat_copies` meets its contract: the bytes below `at` are the pattern's, and a whole number of patterns before a byte stands the same one. Assumes nothing.
-use mathlib.Core.Path.{◌≡◌, sym, ap, ◌∙◌, subst}
-use Prim.Native.Nat.{◌+◌, ◌≤◌, ◌-◌}
+use mathlib.Core.Path.{sym, ap, ◌∙◌, subst}
+use Prim.Native.Nat.{◌+◌, ◌-◌}
 use native.Mathlib.Nat.{le_refl}
 use native.Mathlib.Omega.{arith}
 use lib.ListN.{length}
 use lib.Seq.{length-sets, length-take-le}
-use borrow.Author.Rules.{rules}
 use Rattle.splat.proofs.Splats.{Done, all_done, done_copy, front}
 use Rattle.splat.proofs.splat_copies.Goals as goal
 

@@ -1,11 +1,7 @@
-use mathlib.Core.Path.{◌≡◌, sym, ap, ◌∙◌, subst}
-use Prim.Native.Nat.{◌+◌, ◌≤◌, ◌-◌}
-use native.Mathlib.Nat.{le_refl}
-use native.Mathlib.Omega.{arith}
+use mathlib.Core.Path.{◌≡◌}
+use Prim.Native.Nat.{◌≤◌, ◌-◌}
 use lib.ListN.{length}
-use lib.Seq.{length-sets, length-take-le}
-use borrow.Author.Rules.{rules}
-use Rattle.splat.proofs.Splats.{Done, all_done, done_copy, front}
+use Rattle.splat.proofs.Splats.{Done}
 use Rattle.splat.proofs.splat_copies.Given as goal
 
 abbrev pub invariant-loop-at : goal.invariant-loop-at

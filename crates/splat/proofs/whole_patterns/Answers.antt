@@ -3,7 +3,6 @@ use mathlib.Core.Path.{◌≡◌}
 use Prim.Native.Nat.{ℕ, ◌+◌, ◌*◌, ◌/◌}
 use native.Mathlib.Nat.{add-mul, one-mul, mul-mod_left, div-le_self, div-mul-le_self, lt-div-mul-add}
 use native.Mathlib.Omega.{arith}
-use borrow.Author.Rules.{rules}
 use Rattle.splat.proofs.whole_patterns.Goals as goal
 
 spread : (n : ℕ) → (512 / n + 1) * n ≡ 512 / n * n + n

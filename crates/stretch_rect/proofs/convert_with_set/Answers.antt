@@ -7,14 +7,13 @@ use lib.IntN.{ℤ, ◌+ℤ◌, ◌-ℤ◌}
 use lib.Signed.{mag}
 use mir.Syntax.{w64}
 use mir.Val.{SFits, to_z, of_z}
-use borrow.Author.Rules.{rules}
 use Rattle.words.specs.Integers.{clamp_to}
 use Rattle.words.specs.Machine.{asks, gives, kept}
 use Rattle.words.specs.Ranges.{Within, small, plus, less, mag_small}
 use Rattle.stretch_rect.specs.declared.Rgb.{Rgb}
 use Rattle.yuv_sets.specs.declared.YuvSet.{YuvSet}
 use Rattle.stretch_rect.specs.Yuv.{luma_part, chroma_part, nearest_whole, rgb_of, red_rounded, green_rounded, blue_rounded, red_exact, green_exact, blue_exact, RgbNear, set_unit, set_slack}
-use Rattle.stretch_rect.specs.Nearness.{set_near}
+use Rattle.stretch_rect.proofs.NearnessLaws.{set_near}
 use Rattle.stretch_rect.proofs.Sizes.{luma_range, chroma_range}
 use Rattle.stretch_rect.proofs.convert_with_set.Goals as goal
 
@@ -131,4 +130,4 @@ returns c =
     (c.to8-r.ensures ∙ ap byte (add_is luma v_red))
     (c.to8-g.ensures ∙ ap byte (sub2_is luma u_green v_green))
     (c.to8-b.ensures ∙ ap byte (add_is luma u_blue))) in
-    record { is = both.0; near = both.1; }
+    record { is = both.0; near = both.1 }

@@ -2,7 +2,6 @@
 use mathlib.Core.Path.{ap}
 use Prim.Native.Nat.{◌+◌}
 use native.Mathlib.Omega.{arith}
-use borrow.Author.Rules.{rules}
 use Rattle.planar_yuv.specs.Offsets.{u_offset_at, v_offset_at, nv12_v}
 use Rattle.stretch_rect.specs.Samples.{planar_rgb}
 use Rattle.stretch_rect.proofs.Places.{rgb_at}

@@ -1,7 +1,6 @@
 -- `stretch_rect::decode_packed_yuv` meets its contract: the code is one of the two. Assumes nothing.
 use mathlib.Core.Path.{◌≡◌}
 use mathlib.Core.Logic.{⊎_elim}
-use borrow.Author.Rules.{rules}
 use Rattle.formats.specs.Codes.{YUY2, UYVY}
 use Rattle.formats.specs.Classes.{is_packed_yuv}
 use Rattle.stretch_rect.specs.Samples.{packed_rgb}

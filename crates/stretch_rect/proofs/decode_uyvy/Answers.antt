@@ -1,7 +1,6 @@
 -- `stretch_rect::decode_uyvy` meets its contract: the bytes stand at their places. Assumes nothing.
 use mathlib.Core.Path.{ap, ◌∙◌}
 use lib.ListN.{get_or}
-use borrow.Author.Rules.{rules}
 use Rattle.stretch_rect.specs.Yuv.{rgb_of}
 use Rattle.stretch_rect.specs.Samples.{packed_rgb}
 use Rattle.stretch_rect.proofs.Places.{pick_at}

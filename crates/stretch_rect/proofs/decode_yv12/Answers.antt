@@ -1,6 +1,5 @@
 -- `stretch_rect::decode_yv12` meets its contract: the three offsets are those of the definitions, and inside the frame. Assumes nothing.
 use native.Mathlib.Omega.{arith}
-use borrow.Author.Rules.{rules}
 use Rattle.planar_yuv.specs.Offsets.{u_offset_at, v_offset_at}
 use Rattle.stretch_rect.specs.Samples.{planar_rgb}
 use Rattle.stretch_rect.proofs.Places.{rgb_at}

@@ -5,7 +5,6 @@ use native.Mathlib.Omega.{arith}
 use lib.IntN.{pos, ◌-ℤ◌, ◌*ℤ◌}
 use mir.Syntax.{w64}
 use mir.Val.{SFits, to_z}
-use borrow.Author.Rules.{rules}
 use Rattle.words.specs.Machine.{plain, asks, gives, shifted}
 use Rattle.words.specs.Ranges.{small}
 use Rattle.stretch_rect.specs.Yuv.{luma_part, luma_exact}

@@ -6,7 +6,6 @@ use lib.Bits.{bit_or}
 use Rattle.formats.specs.Table.{parts_of}
 use Rattle.texels.specs.Texels.{encoded_of}
 use Rattle.texels.specs.Words.{part_onto, code_fits}
-use borrow.Author.Rules.{rules}
 use Rattle.texel_words.proofs.encode_a4r4g4b4.Goals as goal
 
 pub returns : goal.returns

@@ -6,7 +6,6 @@ use lib.Bits.{bit_or}
 use Rattle.formats.specs.Table.{parts_of}
 use Rattle.texels.specs.Texels.{encoded_of}
 use Rattle.texels.specs.Words.{part_onto, code_fits}
-use borrow.Author.Rules.{rules}
 use Rattle.texel_words.proofs.encode_r5g6b5.Goals as goal
 
 pub returns : goal.returns

@@ -6,7 +6,6 @@ use Rattle.formats.specs.Classes.{rgb_formats, is_convertible_rgb}
 use Rattle.formats.specs.Table.{bytes_of, parts_of}
 use Rattle.formats.specs.Listed.{no_arm}
 use Rattle.texel_words.proofs.Arms.{encode_arm}
-use borrow.Author.Rules.{rules}
 use Rattle.texel_words.proofs.encode_rgb_pixel.Goals as goal
 
 pub put24-requires : goal.put24-requires

@@ -6,7 +6,6 @@ use lib.Bits.{bit_or, or_shifted_r}
 use Rattle.formats.specs.Table.{parts_of}
 use Rattle.texels.specs.Texels.{encoded_of}
 use Rattle.texels.specs.Words.{part_onto, code_fits, padding_bit}
-use borrow.Author.Rules.{rules}
 use Rattle.texel_words.proofs.encode_x1r5g5b5.Goals as goal
 
 pub returns : goal.returns

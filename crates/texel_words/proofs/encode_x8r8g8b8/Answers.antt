@@ -3,7 +3,6 @@ use native.Mathlib.Omega.{arith}
 use Rattle.formats.specs.Table.{parts_of}
 use Rattle.channels.specs.Expansion.{truncated}
 use Rattle.texels.specs.Texels.{encoded_of}
-use borrow.Author.Rules.{rules}
 use Rattle.texel_words.proofs.encode_x8r8g8b8.Goals as goal
 
 pub returns : goal.returns

@@ -3,7 +3,6 @@ use mathlib.Core.Path.{sym, ap, ◌∙◌}
 use Rattle.formats.specs.Codes.{A8R8G8B8}
 use Rattle.formats.specs.Listed.{lane_rest}
 use Rattle.texels.specs.Texels.{encoded_of}
-use borrow.Author.Rules.{rules}
 use Rattle.texel_words.proofs.read_word.Goals as goal
 
 pub decode_code_source-requires : goal.decode_code_source-requires

@@ -1,7 +1,7 @@
 -- `texel_words::word_r5g6b5` meets its contract: the top bits of a lane of eight are the lane's higher part, and each is shifted onto bits that are clear. Assumes nothing.
 use mathlib.Core.Path.{◌≡◌, sym, ap, ap₂, ◌∙◌}
 use native.Mathlib.Omega.{arith}
-use Prim.Native.Nat.{ℕ, ◌+◌, ◌*◌, ◌/◌, ◌%◌, ◌^◌, ◌<◌}
+use Prim.Native.Nat.{ℕ, ◌+◌, ◌*◌, ◌/◌, ◌%◌, ◌<◌}
 use lib.Bits.{bit_and, bit_or, and_mask}
 use Rattle.formats.specs.Table.{lane_of, parts_of}
 use Rattle.channels.specs.Expansion.{expanded, truncated}

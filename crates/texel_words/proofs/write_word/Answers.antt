@@ -6,7 +6,6 @@ use Rattle.formats.specs.Codes.{R5G6B5}
 use Rattle.formats.specs.Table.{parts_of, bytes_of}
 use Rattle.texels.specs.Texels.{encoded_bytes}
 use Rattle.texel_words.proofs.Arms.{encode_arm}
-use borrow.Author.Rules.{rules}
 use Rattle.texel_words.proofs.write_word.Goals as goal
 
 pub put16-requires : goal.put16-requires

@@ -3,7 +3,7 @@ use mathlib.Core.Path.{◌≡◌, ap, ◌∙◌, subst}
 use mathlib.Core.List.{List}
 use Prim.Native.Nat.{ℕ, ◌+◌, ◌*◌, ◌/◌, ◌%◌, ◌^◌, ◌<◌}
 use native.Mathlib.Omega.{arith}
-use lib.ListN.{length, take, drop}
+use lib.ListN.{take, drop}
 use lib.Seq.{length-take-le}
 use Rattle.words.specs.Little.{Small, number, number_split, number_lt, small_list, small_take}
 use Rattle.words.specs.Slices.{part_read}
@@ -11,7 +11,6 @@ use Rattle.formats.specs.Table.{lane_of, parts_of}
 use Rattle.channels.specs.Nearest.{rounded}
 use Rattle.texels.specs.Texels.{decoded_of, colour_of}
 use Rattle.texels.proofs.Arms.{four_bytes}
-use borrow.Author.Rules.{rules}
 use Rattle.texels.proofs.decode_a16b16g16r16.Goals as goal
 
 lanes : (low high w : ℕ) → low < 4294967296 → w ≡ low + 4294967296 * high

@@ -11,7 +11,6 @@ use Rattle.channels.specs.Exact.{float_value}
 use Rattle.formats.specs.Table.{lane_of, parts_of}
 use Rattle.texels.specs.Texels.{decoded_of, colour_of, nearest_byte}
 use Rattle.texels.specs.Words.{byte_lane}
-use borrow.Author.Rules.{rules}
 use Rattle.texels.proofs.decode_a32b32g32r32f.Goals as goal
 
 pub returns : goal.returns

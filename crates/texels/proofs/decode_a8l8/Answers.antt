@@ -5,7 +5,6 @@ use Rattle.formats.specs.Table.{lane_of, parts_of}
 use Rattle.channels.specs.Expansion.{expanded}
 use Rattle.texels.specs.Texels.{decoded_of, colour_of}
 use Rattle.texels.proofs.Arms.{unshifted, four_bytes}
-use borrow.Author.Rules.{rules}
 use Rattle.texels.proofs.decode_a8l8.Goals as goal
 
 pub returns : goal.returns

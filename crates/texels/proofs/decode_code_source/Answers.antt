@@ -6,7 +6,6 @@ use Rattle.formats.specs.Classes.{code_sources, is_code_source}
 use Rattle.formats.specs.Table.{bytes_of, parts_of}
 use Rattle.formats.specs.Listed.{no_arm}
 use Rattle.texels.proofs.Arms.{decode_arm}
-use borrow.Author.Rules.{rules}
 use Rattle.texels.proofs.decode_code_source.Goals as goal
 
 pub decode_a16b16g16r16-requires : goal.decode_a16b16g16r16-requires

@@ -8,7 +8,6 @@ use Rattle.formats.specs.Classes.{rgb_formats, is_convertible_rgb}
 use Rattle.formats.specs.Table.{bytes_of, parts_of}
 use Rattle.formats.specs.Listed.{no_arm}
 use Rattle.texels.proofs.Arms.{decode_arm}
-use borrow.Author.Rules.{rules}
 use Rattle.texels.proofs.decode_pixel.Goals as goal
 
 pub le24-requires : goal.le24-requires

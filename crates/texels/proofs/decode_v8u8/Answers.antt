@@ -6,7 +6,6 @@ use Rattle.channels.specs.Nearest.{rounded}
 use Rattle.channels.specs.Exact.{not_negative}
 use Rattle.texels.specs.Texels.{decoded_of, colour_of, missing_colour}
 use Rattle.texels.proofs.Arms.{unshifted, four_bytes}
-use borrow.Author.Rules.{rules}
 use Rattle.texels.proofs.decode_v8u8.Goals as goal
 
 pub returns : goal.returns

@@ -3,7 +3,6 @@ use mathlib.Core.Path.{sym}
 use Prim.Native.Nat.{◌%◌}
 use native.Mathlib.Omega.{arith}
 use Rattle.texels.specs.Words.{expanded_eight}
-use borrow.Author.Rules.{rules}
 use Rattle.texels.proofs.expand8.Goals as goal
 
 pub returns : goal.returns

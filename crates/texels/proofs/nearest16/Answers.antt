@@ -2,7 +2,6 @@
 use mathlib.Core.Path.{◌∙◌}
 use Prim.Native.Nat.{◌%◌}
 use Rattle.texels.specs.Words.{sixteen}
-use borrow.Author.Rules.{rules}
 use Rattle.texels.proofs.nearest16.Goals as goal
 
 pub returns : goal.returns

@@ -1,5 +1,4 @@
 -- `wentuqis::wentuqis_can_convert_update` meets its contract: the inner call's. Assumes nothing.
-use borrow.Author.Rules.{rules}
 use Rattle.wentuqis.proofs.wentuqis_can_convert_update.Goals as goal
 
 pub returns : goal.returns

@@ -5,7 +5,6 @@ use Prim.Native.Nat.{ℕ}
 use Rattle.convert_reply.specs.declared.ConvertRegion.{ConvertRegion}
 use Rattle.convert_reply.specs.Replies.{convert_reply, reply_number}
 use Rattle.regions.specs.Regions.{converted_bytes, NearSource, OthersKept}
-use borrow.Author.Rules.{rules}
 use Rattle.wentuqis.proofs.wentuqis_convert_region.Goals as goal
 
 abbrev Clauses : (src dst out : List ℕ) (s d n : ℕ) → ConvertRegion → Type 0
@@ -18,4 +17,4 @@ returns c =
     let both = subst (Clauses g.src.now g.dst.now call.new.dst g.src_format g.dst_format c.number.result)
     c.region_of-region.ensures
     (c.number.ensures ∙ ap reply_number call.ensures.reply, (call.ensures.bytes, (call.ensures.near, call.ensures.kept))) in
-    record { reply = both.0; bytes = both.1.0; near = both.1.1.0; kept = both.1.1.1; }
+    record { reply = both.0; bytes = both.1.0; near = both.1.1.0; kept = both.1.1.1 }

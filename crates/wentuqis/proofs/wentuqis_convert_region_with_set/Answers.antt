@@ -7,7 +7,6 @@ use Rattle.convert_reply.specs.declared.ConvertRegion.{ConvertRegion}
 use Rattle.convert_reply.specs.Replies.{reply_with, reply_number}
 use Rattle.regions.specs.Regions.{converted_with, NearWith, OwnWith, OthersKept}
 use Rattle.boundary.specs.Calls.{set_of}
-use borrow.Author.Rules.{rules}
 use Rattle.wentuqis.proofs.wentuqis_convert_region_with_set.Goals as goal
 
 abbrev Clauses : YuvSet → (src dst out : List ℕ) (s d n : ℕ) → ConvertRegion → Type 0
@@ -21,4 +20,4 @@ returns c =
     let both = subst (Clauses (set_of g.luma_gain g.luma_offset g.v_to_red g.u_to_green g.v_to_green g.u_to_blue g.chroma_centre) g.src.now g.dst.now call.new.dst g.src_format g.dst_format c.number.result)
     c.region_of-region.ensures
     (c.number.ensures ∙ ap reply_number call.ensures.reply, (call.ensures.bytes, (call.ensures.near, (call.ensures.own, call.ensures.kept)))) in
-    record { reply = both.0; bytes = both.1.0; near = both.1.1.0; own = both.1.1.1.0; kept = both.1.1.1.1; }
+    record { reply = both.0; bytes = both.1.0; near = both.1.1.0; own = both.1.1.1.0; kept = both.1.1.1.1 }

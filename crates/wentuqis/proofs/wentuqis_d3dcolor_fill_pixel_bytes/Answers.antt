@@ -11,7 +11,6 @@ use Rattle.formats.specs.Lanes.{bits}
 use Rattle.formats.specs.Table.{bytes_of, parts_of, not_listed_above}
 use Rattle.formats.specs.Classes.{listed}
 use Rattle.convert.specs.Fill.{word_of, fill_formats, filled, refused, fill_of}
-use borrow.Author.Rules.{rules}
 use Rattle.wentuqis.proofs.wentuqis_d3dcolor_fill_pixel_bytes.Goals as goal
 
 small : ℕ → Bool

@@ -1,5 +1,4 @@
 -- `wentuqis::wentuqis_d3dcolor_to_rgba_f32` meets its contract: the inner call's. Assumes nothing.
-use borrow.Author.Rules.{rules}
 use Rattle.wentuqis.proofs.wentuqis_d3dcolor_to_rgba_f32.Goals as goal
 
 pub returns : goal.returns

@@ -1,5 +1,4 @@
 -- `wentuqis::wentuqis_splat_pixel_pattern` meets its contract: the inner call's. Assumes nothing.
-use borrow.Author.Rules.{rules}
 use Rattle.wentuqis.proofs.wentuqis_splat_pixel_pattern.Goals as goal
 
 pub returns : goal.returns

@@ -19,7 +19,6 @@ use Rattle.places.specs.Planar.{laid_out}
 use Rattle.places.specs.Inside.{planar_places_lem, lanes_left, lane_ends, packed_ends}
 use Rattle.regions.specs.Regions.{texel_of}
 use Rattle.regions.specs.Fetch.{lane_texel, packed_texel, planar_texel}
-use borrow.Author.Rules.{rules}
 use Rattle.yuv_rows.proofs.fetch.Goals as goal
 
 pub fetch_planar-requires : goal.fetch_planar-requires

@@ -4,7 +4,6 @@ use Prim.Native.Nat.{◌%◌}
 use lib.Dec.{eqb}
 use Rattle.regions.specs.Regions.{opaque_of}
 use Rattle.regions.specs.Fetch.{packed_opaque}
-use borrow.Author.Rules.{rules}
 use Rattle.yuv_rows.proofs.fetch_packed.Goals as goal
 
 pub returns : goal.returns

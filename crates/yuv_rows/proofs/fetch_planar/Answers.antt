@@ -5,7 +5,6 @@ use lib.Dec.{eqb}
 use Rattle.stretch_rect.specs.Samples.{Readable}
 use Rattle.regions.specs.Regions.{opaque_of}
 use Rattle.regions.specs.Fetch.{readable, planar_opaque}
-use borrow.Author.Rules.{rules}
 use Rattle.yuv_rows.proofs.fetch_planar.Goals as goal
 
 pub decode_planar_yuv-requires : goal.decode_planar_yuv-requires

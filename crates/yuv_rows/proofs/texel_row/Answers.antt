@@ -1,12 +1,13 @@
 -- `yuv_rows::texel_row` meets its contract: column by column. Assumes nothing.
-use mathlib.Core.Path.{◌≡◌, refl, sym, ap, ap₂, ◌∙◌, subst}
+use mathlib.Core.Path.{refl, sym, ap, ap₂, ◌∙◌, subst}
 use mathlib.Core.List.{List}
-use Prim.Native.Nat.{ℕ, ◌+◌, ◌*◌, ◌-◌, ◌≤◌}
+use Prim.Native.Nat.{ℕ, ◌+◌, ◌*◌, ◌≤◌}
 use native.Mathlib.Nat.{le_antisymm}
 use native.Mathlib.Omega.{arith}
 use lib.ListN.{length, length-take, length-drop}
 use lib.Seq.{sets, length-sets}
-use Rattle.words.specs.Iterate.{iterate, iterate_zero, iterate_step}
+use Rattle.words.specs.Iterate.{iterate_zero}
+use Rattle.words.proofs.IterateLaws.{iterate_step}
 use Rattle.formats.specs.Table.{bytes_of}
 use Rattle.texels.specs.declared.Texel.{Texel}
 use Rattle.texels.specs.Texels.{encoded_bytes}
@@ -15,7 +16,7 @@ use Rattle.places.specs.Places.{texel_start}
 use Rattle.regions.specs.Regions.{to_at, texel_at, source_texel, written, row_written}
 use Rattle.texels.specs.Words.{texel_back}
 use Rattle.convert_reply.specs.Passed.{convert_rgb, convert_picture}
-use Rattle.regions.specs.Carried.{CarriedAt, at_first, at_next}
+use Rattle.regions.specs.Carried.{at_first, at_next}
 use borrow.Author.Rules.{rules}
 use Rattle.yuv_rows.proofs.texel_row.Goals as goal
 

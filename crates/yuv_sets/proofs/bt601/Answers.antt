@@ -5,4 +5,4 @@ use Rattle.yuv_sets.proofs.bt601.Goals as goal
 
 pub returns : goal.returns
 returns c =
-    record { is = refl; nearest = bt601_rounded; }
+    record { is = refl; nearest = bt601_rounded }

@@ -5,4 +5,4 @@ use Rattle.yuv_sets.proofs.bt709.Goals as goal
 
 pub returns : goal.returns
 returns c =
-    record { is = refl; nearest = bt709_rounded; }
+    record { is = refl; nearest = bt709_rounded }

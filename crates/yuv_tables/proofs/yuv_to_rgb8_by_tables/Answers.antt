@@ -4,7 +4,7 @@ use lib.Dec.{lit≤}
 use Rattle.yuv_sets.specs.Sets.{bt601}
 use Rattle.stretch_rect.specs.Yuv.{RgbNear, decimal_unit, decimal_slack, red_decimal, green_decimal, blue_decimal}
 use Rattle.yuv_parts.specs.Sums.{Part}
-use Rattle.stretch_rect.specs.Decimals.{bt601_near}
+use Rattle.stretch_rect.proofs.Decimals.{bt601_near}
 use Rattle.yuv_parts.specs.Parts.{joined, joined_set}
 use Rattle.yuv_tables.proofs.Sizes.{luma_rule, chroma_rule, luma_size, chroma_size}
 use Rattle.yuv_tables.proofs.Lookup.{read_back, read_back_size}

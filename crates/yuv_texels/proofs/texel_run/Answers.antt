@@ -6,7 +6,8 @@ use native.Mathlib.Nat.{add-zero, add_assoc, le_antisymm}
 use native.Mathlib.Omega.{arith}
 use lib.ListN.{length, length-take, length-drop}
 use lib.Seq.{sets, length-sets}
-use Rattle.words.specs.Iterate.{iterate_zero, iterate_step}
+use Rattle.words.specs.Iterate.{iterate_zero}
+use Rattle.words.proofs.IterateLaws.{iterate_step}
 use Rattle.formats.specs.Table.{bytes_of}
 use Rattle.texels.specs.declared.Texel.{Texel}
 use Rattle.texels.specs.Texels.{encoded_bytes}

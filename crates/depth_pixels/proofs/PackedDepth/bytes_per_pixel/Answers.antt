@@ -3,7 +3,6 @@ use mathlib.Core.Path.{sym, ap, ◌∙◌}
 use Rattle.formats.specs.Table.{bytes_of}
 use Rattle.depth_pixels.specs.Pixels.{format_code}
 use Rattle.depth_pixels.specs.PackedFormats.{size_d16, size_d24x8, size_d24s8}
-use borrow.Author.Rules.{rules}
 use Rattle.depth_pixels.proofs.PackedDepth.bytes_per_pixel.Goals as goal
 
 pub returns-in-D16 : goal.returns-in-D16

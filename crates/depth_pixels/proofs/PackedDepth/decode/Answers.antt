@@ -9,7 +9,6 @@ use Rattle.depth_pixels.specs.declared.PackedDepth.{PackedDepth}
 use Rattle.depth_pixels.specs.Pixels.{format_code, decoded}
 use Rattle.depth_pixels.specs.PackedFormats.{size_d16, size_d24x8, size_d24s8}
 use Rattle.depth_pixels.specs.PixelBytes.{word_at}
-use borrow.Author.Rules.{rules}
 use Rattle.depth_pixels.proofs.PackedDepth.decode.Goals as goal
 
 told : (d e : PackedDepth) (n : ℕ) → d ≡ e → bytes_of (format_code e) ≡ n → bytes_of (format_code d) ≡ n

@@ -1,6 +1,5 @@
 -- `depth_pixels::PackedDepth::from_d3d` meets its contract: the last arm has none of the three codes. Assumes nothing.
 use Rattle.depth_pixels.specs.PackedFormats.{not_packed}
-use borrow.Author.Rules.{rules}
 use Rattle.depth_pixels.proofs.PackedDepth.from_d3d.Goals as goal
 
 pub returns-in_default : goal.returns-in_default

@@ -2,7 +2,6 @@
 use mathlib.Core.Path.{sym, ap, ◌∙◌}
 use Rattle.depth_pixels.specs.Pixels.{format_code, has_stencil}
 use Rattle.depth_pixels.specs.PackedFormats.{stencil_d16, stencil_d24x8, stencil_d24s8}
-use borrow.Author.Rules.{rules}
 use Rattle.depth_pixels.proofs.PackedDepth.has_stencil.Goals as goal
 
 pub returns-in-D16 : goal.returns-in-D16

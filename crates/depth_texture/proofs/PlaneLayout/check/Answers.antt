@@ -4,7 +4,6 @@ use lib.Dec.{lit<}
 use Rattle.depth_pixels.specs.Pixels.{format_code, StandsFor}
 use Rattle.depth_texture.specs.Replies.{refusal_of, Checked}
 use Rattle.depth_texture.specs.Refusals.{refused_9, found}
-use borrow.Author.Rules.{rules}
 use Rattle.depth_texture.proofs.PlaneLayout.check.Goals as goal
 
 pub returns-in-Other : goal.returns-in-Other

@@ -2,13 +2,11 @@
 use mathlib.Core.Path.{◌≡◌, refl, sym, ◌∙◌}
 use mathlib.Core.Bool.{true}
 use lib.Dec.{lit<}
-use borrow.Author.Tests.{not-true, not-false}
 use Rattle.depth_pixels.specs.Pixels.{format_code}
 use Rattle.depth_pixels.specs.PackedFormats.{packed_known}
 use Rattle.depth_texture.specs.Layouts.{stands}
 use Rattle.depth_texture.specs.Replies.{packed_holds, plane_holds}
 use Rattle.depth_texture.specs.Refusals.{stands_holds, refused_10, refused_11, refused_12, refused_13, not_refused, found}
-use borrow.Author.Rules.{rules}
 use Rattle.depth_texture.proofs.PlaneLayout.check_buffers.Goals as goal
 
 pub returns-then-not-is_sound : goal.returns-then-not-is_sound

@@ -2,9 +2,8 @@
 use mathlib.Core.Path.{sym, ◌∙◌}
 use Prim.Native.Nat.{◌*◌, ◌≤◌, ◌<◌}
 use native.Mathlib.Omega.{arith}
-use borrow.Author.Tests.{leb-true, leb-false, not-true, not-false}
+use borrow.Author.Tests.{leb-true, leb-false}
 use Rattle.depth_texture.specs.Refusals.{stands_is, not_standing}
-use borrow.Author.Rules.{rules}
 use Rattle.depth_texture.proofs.PlaneLayout.is_sound.Goals as goal
 
 pub returns-then-self-eq0 : goal.returns-then-self-eq0

@@ -12,7 +12,6 @@ use Rattle.depth_texture.specs.declared.PlaneLayout.{PlaneLayout}
 use Rattle.depth_pixels.specs.Pixels.{format_code}
 use Rattle.depth_pixels.specs.PackedFormats.{sizes}
 use Rattle.depth_texture.specs.Replies.{packed_holds}
-use borrow.Author.Rules.{rules}
 use Rattle.depth_texture.proofs.PlaneLayout.packed_holds.Goals as goal
 
 module _ (f : ℕ) (l : PlaneLayout) (len pitch size : ℕ) (e : size ≡ bytes_of f) where

@@ -3,7 +3,6 @@ use mathlib.Core.Path.{sym, ap, ◌∙◌}
 use mathlib.Core.Bool.{true}
 use Rattle.words.specs.Tests.{pick}
 use Rattle.depth_texture.specs.Replies.{stencil_holds, plane_holds}
-use borrow.Author.Rules.{rules}
 use Rattle.depth_texture.proofs.PlaneLayout.stencil_holds.Goals as goal
 
 pub returns-then-has_stencil : goal.returns-then-has_stencil

@@ -1,7 +1,6 @@
 -- `planar_yuv::PlanarYuvLayout::contains` meets its contract: the second test decides where the first holds. Assumes nothing.
 use mathlib.Core.Path.{refl}
 use borrow.Author.Tests.{lt-ltb, le-ltb}
-use borrow.Author.Rules.{rules}
 use Rattle.planar_yuv.proofs.PlanarYuvLayout.contains.Goals as goal
 
 pub returns-then-x-self : goal.returns-then-x-self

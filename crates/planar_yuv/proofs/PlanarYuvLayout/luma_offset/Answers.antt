@@ -1,7 +1,6 @@
 -- `planar_yuv::PlanarYuvLayout::luma_offset` meets its contract: a row of luma lies within 2^28 bytes. Assumes nothing.
 use mathlib.Core.Path.{refl}
 use native.Mathlib.Omega.{arith}
-use borrow.Author.Rules.{rules}
 use Rattle.planar_yuv.specs.Offsets.{luma_offset_at}
 use Rattle.planar_yuv.proofs.Bounds.{luma_row}
 use Rattle.planar_yuv.proofs.PlanarYuvLayout.luma_offset.Goals as goal

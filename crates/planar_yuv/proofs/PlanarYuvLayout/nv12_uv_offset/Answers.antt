@@ -1,7 +1,6 @@
 -- `planar_yuv::PlanarYuvLayout::nv12_uv_offset` meets its contract: each product is at most 2^28. Assumes nothing.
 use mathlib.Core.Path.{refl}
 use native.Mathlib.Omega.{arith}
-use borrow.Author.Rules.{rules}
 use Rattle.planar_yuv.specs.Offsets.{nv12_u}
 use Rattle.planar_yuv.proofs.Bounds.{base, pair_row}
 use Rattle.planar_yuv.proofs.PlanarYuvLayout.nv12_uv_offset.Goals as goal

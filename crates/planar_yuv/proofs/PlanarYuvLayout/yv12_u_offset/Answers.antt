@@ -2,7 +2,6 @@
 use mathlib.Core.Path.{ap₂}
 use Prim.Native.Nat.{◌+◌, ◌*◌, ◌/◌}
 use native.Mathlib.Omega.{arith}
-use borrow.Author.Rules.{rules}
 use Rattle.planar_yuv.specs.Offsets.{yv12_u, yv12_v}
 use Rattle.planar_yuv.proofs.Bounds.{base, half_row, plane}
 use Rattle.planar_yuv.proofs.PlanarYuvLayout.yv12_u_offset.Goals as goal

@@ -1,7 +1,6 @@
 -- `planar_yuv::PlanarYuvLayout::yv12_v_offset` meets its contract: each product is at most 2^28. Assumes nothing.
 use mathlib.Core.Path.{refl}
 use native.Mathlib.Omega.{arith}
-use borrow.Author.Rules.{rules}
 use Rattle.planar_yuv.specs.Offsets.{yv12_v}
 use Rattle.planar_yuv.proofs.Bounds.{base, half_row}
 use Rattle.planar_yuv.proofs.PlanarYuvLayout.yv12_v_offset.Goals as goal

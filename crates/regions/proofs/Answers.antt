@@ -8,11 +8,12 @@ use Rattle.yuv_sets.specs.declared.YuvSet.{YuvSet}
 use Rattle.convert_reply.specs.declared.ConvertRegion.{ConvertRegion}
 use Rattle.convert_reply.specs.declared.ConvertReply.{ConvertReply}
 use Rattle.convert_reply.specs.declared.ConvertReply.TheVariants.{Accepted}
-use Rattle.places.specs.Inside.{inside_at, texel_fits}
+use Rattle.places.specs.Inside.{texel_fits}
+use Rattle.places.proofs.InsideLaws.{inside_at}
 use Rattle.convert_reply.specs.Replies.{illegal_set, is_empty, source_inside, destination_inside, reply_with, reply_number, if_accepted}
 use Rattle.regions.specs.Regions.{row_written, slice_written, region_written, converted_with, InRegion, NearWith, OwnWith, OthersKept}
 use Rattle.convert_reply.specs.Passed.{convert_rgb, passed, sizes, is_accepted, is_refused}
-use Rattle.regions.specs.Promises.{destination_fits, near_source, own_bytes, others_kept}
+use Rattle.regions.proofs.Promises.{destination_fits, near_source, own_bytes, others_kept}
 use Rattle.regions.specs.Rows.{RowFits}
 
 -- ---- an empty region

@@ -17,17 +17,20 @@ use Rattle.yuv_sets.specs.declared.YuvSet.{YuvSet}
 use Rattle.yuv_sets.specs.Sets.{bt601, same_set}
 use Rattle.yuv_sets.specs.Legal.{same_set_lem}
 use Rattle.stretch_rect.specs.Yuv.{rgb_of, red_rounded, green_rounded, blue_rounded, set_unit, set_slack, ByteNear, red_exact, green_exact, blue_exact, decimal_unit, red_decimal, green_decimal, blue_decimal}
-use Rattle.stretch_rect.specs.Nearness.{set_near}
-use Rattle.stretch_rect.specs.Exact.{RgbStands, bt601_stands, set_stands}
+use Rattle.stretch_rect.proofs.NearnessLaws.{set_near}
+use Rattle.stretch_rect.specs.Exact.{RgbStands}
+use Rattle.stretch_rect.proofs.ExactLaws.{bt601_stands, set_stands}
 use Rattle.words.specs.Integers.{clamp_to}
 use Rattle.convert_reply.specs.declared.ConvertRegion.{ConvertRegion}
 use Rattle.convert_reply.specs.declared.ConvertReply.{ConvertReply}
 use Rattle.convert_reply.specs.declared.ConvertReply.TheVariants.{Accepted, Unsupported, PlanarShape, SourceOutside, DestinationOutside, IllegalSet}
 use Rattle.texels.specs.declared.Texel.{Texel}
 use Rattle.texels.specs.Texels.{decoded_of, encoded_bytes, byte_of, code_of, exact_of, value_of, Stands, Holds}
-use Rattle.texels.specs.Bounds.{decoded_stands, channel_byte, encoded_holds, encoded_number, near_bytes}
+use Rattle.texels.specs.Bounds.{channel_byte, encoded_holds, encoded_number}
+use Rattle.texels.proofs.BoundsLaws.{decoded_stands, near_bytes}
 use Rattle.places.specs.Places.{Places, absent, offsets, bytes_from, bytes_at}
-use Rattle.places.specs.Inside.{inside_at, texel_fits, lane_ends}
+use Rattle.places.specs.Inside.{texel_fits, lane_ends}
+use Rattle.places.proofs.InsideLaws.{inside_at}
 use Rattle.convert_reply.specs.Replies.{is_empty, destination_inside, reply_to, if_accepted}
 use Rattle.regions.specs.Regions.{luma_of, u_of, v_of, opaque_of, texel_of, clamped_values, yuv_values, values_of, texel_at, exact_at, to_at, source_bytes, odd_at, source_texel, source_values, region_written, converted_with, InRegion, Disjoint, NearWith, HoldsByte, HoldsColour, OwnWith, OthersKept}
 use Rattle.regions.specs.Stored.{region_other, region_own}

@@ -20,7 +20,8 @@ use Rattle.depth_texture.specs.declared.PlaneLayout.{PlaneLayout}
 use Rattle.depth_pixels.specs.Depth.{depth_of, code_for, CodeFor}
 use Rattle.depth_pixels.specs.Restoration.{code_for_lem, restored}
 use Rattle.depth_pixels.specs.Pixels.{format_code, is_packed_depth, has_stencil, max_code, depth_code, stencil_code, decoded, pixel_word, encoded, KeepsAll}
-use Rattle.depth_pixels.specs.PackedFormats.{format_of, Sizes, sizes, depth_code_le, stencil_lt, depth_held, word_lt, word_restored, no_stencil}
+use Rattle.depth_pixels.specs.PackedFormats.{format_of, Sizes, sizes, depth_code_le, stencil_lt, depth_held, word_lt, no_stencil}
+use Rattle.depth_pixels.proofs.PackedFormatsLaws.{word_restored}
 use Rattle.depth_pixels.specs.Pictures.{place, pixel_in, written, written_own, written_other}
 use Rattle.depth_texture.specs.Replies.{refusal_of, Accepts}
 use Rattle.depth_texture.specs.Refusals.{accepts, RowsWithin, rows_within}

@@ -1,0 +1,3 @@
+-- Laws that other crates cite, and what the proofs of several functions use.
+pub mod FaintLaws
+pub mod HalfLaws

@@ -1,0 +1,2 @@
+-- Laws that other crates cite, and what the proofs of several functions use.
+pub mod InsideLaws
