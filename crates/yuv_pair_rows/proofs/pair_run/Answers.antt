@@ -59,7 +59,7 @@ overflow_mul-to c =
     let last = run_room (length g.src.now) (length g.dst.now) g.src_format g.dst_format r g.z g.row (g.first + n) c.requires.0 c.requires.4 in
     let more : (r.dst_x + (g.first + n)) * size ≡ (r.dst_x + g.first) * size + n * size = ap (λ k. k * size) (sym (add_assoc r.dst_x g.first n)) ∙ add-mul (r.dst_x + g.first) n size in
     subst (λ (k : ℕ). g.z * r.dst_slice_pitch + (r.dst_y + g.row) * r.dst_pitch + (r.dst_x + g.first) * k + n * size ≤ length g.dst.now) (sym c.requires.2) (omega (arith, last, more)) in
-    omega (arith, to_ends, c.well_formed.1.0)
+    omega (arith, to_ends)
 
 pub overflow_mul-to-2 : goal.overflow_mul-to-2
 unfolding texel_start
@@ -71,7 +71,7 @@ overflow_mul-to-2 c =
     let last = run_room (length g.src.now) (length g.dst.now) g.src_format g.dst_format r g.z g.row (g.first + n) c.requires.0 c.requires.4 in
     let more : (r.dst_x + (g.first + n)) * size ≡ (r.dst_x + g.first) * size + n * size = ap (λ k. k * size) (sym (add_assoc r.dst_x g.first n)) ∙ add-mul (r.dst_x + g.first) n size in
     subst (λ (k : ℕ). g.z * r.dst_slice_pitch + (r.dst_y + g.row) * r.dst_pitch + (r.dst_x + g.first) * k + n * size ≤ length g.dst.now) (sym c.requires.2) (omega (arith, last, more)) in
-    omega (arith, to_ends, c.well_formed.1.0)
+    omega (arith, to_ends)
 
 pub overflow_add-to : goal.overflow_add-to
 unfolding texel_start
@@ -83,7 +83,7 @@ overflow_add-to c =
     let last = run_room (length g.src.now) (length g.dst.now) g.src_format g.dst_format r g.z g.row (g.first + n) c.requires.0 c.requires.4 in
     let more : (r.dst_x + (g.first + n)) * size ≡ (r.dst_x + g.first) * size + n * size = ap (λ k. k * size) (sym (add_assoc r.dst_x g.first n)) ∙ add-mul (r.dst_x + g.first) n size in
     subst (λ (k : ℕ). g.z * r.dst_slice_pitch + (r.dst_y + g.row) * r.dst_pitch + (r.dst_x + g.first) * k + n * size ≤ length g.dst.now) (sym c.requires.2) (omega (arith, last, more)) in
-    omega (arith, to_ends, c.well_formed.1.0)
+    omega (arith, to_ends)
 
 pub overflow_mul-to-3 : goal.overflow_mul-to-3
 unfolding texel_start
@@ -95,7 +95,7 @@ overflow_mul-to-3 c =
     let last = run_room (length g.src.now) (length g.dst.now) g.src_format g.dst_format r g.z g.row (g.first + n) c.requires.0 c.requires.4 in
     let more : (r.dst_x + (g.first + n)) * size ≡ (r.dst_x + g.first) * size + n * size = ap (λ k. k * size) (sym (add_assoc r.dst_x g.first n)) ∙ add-mul (r.dst_x + g.first) n size in
     subst (λ (k : ℕ). g.z * r.dst_slice_pitch + (r.dst_y + g.row) * r.dst_pitch + (r.dst_x + g.first) * k + n * size ≤ length g.dst.now) (sym c.requires.2) (omega (arith, last, more)) in
-    omega (arith, to_ends, c.well_formed.1.0)
+    omega (arith, to_ends)
 
 pub overflow_add-to-2 : goal.overflow_add-to-2
 unfolding texel_start
@@ -107,7 +107,7 @@ overflow_add-to-2 c =
     let last = run_room (length g.src.now) (length g.dst.now) g.src_format g.dst_format r g.z g.row (g.first + n) c.requires.0 c.requires.4 in
     let more : (r.dst_x + (g.first + n)) * size ≡ (r.dst_x + g.first) * size + n * size = ap (λ k. k * size) (sym (add_assoc r.dst_x g.first n)) ∙ add-mul (r.dst_x + g.first) n size in
     subst (λ (k : ℕ). g.z * r.dst_slice_pitch + (r.dst_y + g.row) * r.dst_pitch + (r.dst_x + g.first) * k + n * size ≤ length g.dst.now) (sym c.requires.2) (omega (arith, last, more)) in
-    omega (arith, to_ends, c.well_formed.1.0)
+    omega (arith, to_ends)
 
 pub write_pairs-requires : goal.write_pairs-requires
 unfolding texel_start

@@ -100,7 +100,7 @@ overflow_add-luma c =
     subst (λ (k : ℕ). PairsIn len f k l.u l.v n) (sym l.invariant.0) (subst (λ (k : ℕ). PairsIn len f (g.at.luma + l.done * luma_step f) k l.v n) (sym l.invariant.1) (subst (λ (k : ℕ). PairsIn len f (g.at.luma + l.done * luma_step f) (g.at.u + l.done * chroma_step f) k n) (sym l.invariant.2) a)) in
     let first_in : (c.loop-done.luma < length c.args.src.now) × (c.loop-done.u < length c.args.src.now) × (c.loop-done.v < length c.args.src.now) = let i = inside 0 sized.0 in
     (omega (arith, i.lumas), omega (arith, i.us), omega (arith, i.vs)) in
-    omega (arith, steps_room.0, first_in.0, c.well_formed.1.1.1.0)
+    omega (arith, steps_room.0, first_in.0)
 
 pub overflow_mul-u : goal.overflow_mul-u
 overflow_mul-u c =
@@ -131,7 +131,7 @@ overflow_add-u c =
     subst (λ (k : ℕ). PairsIn len f k l.u l.v n) (sym l.invariant.0) (subst (λ (k : ℕ). PairsIn len f (g.at.luma + l.done * luma_step f) k l.v n) (sym l.invariant.1) (subst (λ (k : ℕ). PairsIn len f (g.at.luma + l.done * luma_step f) (g.at.u + l.done * chroma_step f) k n) (sym l.invariant.2) a)) in
     let first_in : (c.loop-done.luma < length c.args.src.now) × (c.loop-done.u < length c.args.src.now) × (c.loop-done.v < length c.args.src.now) = let i = inside 0 sized.0 in
     (omega (arith, i.lumas), omega (arith, i.us), omega (arith, i.vs)) in
-    omega (arith, steps_room.1, first_in.1, c.well_formed.1.1.1.0)
+    omega (arith, steps_room.1, first_in.1)
 
 pub overflow_mul-v : goal.overflow_mul-v
 overflow_mul-v c =
@@ -162,7 +162,7 @@ overflow_add-v c =
     subst (λ (k : ℕ). PairsIn len f k l.u l.v n) (sym l.invariant.0) (subst (λ (k : ℕ). PairsIn len f (g.at.luma + l.done * luma_step f) k l.v n) (sym l.invariant.1) (subst (λ (k : ℕ). PairsIn len f (g.at.luma + l.done * luma_step f) (g.at.u + l.done * chroma_step f) k n) (sym l.invariant.2) a)) in
     let first_in : (c.loop-done.luma < length c.args.src.now) × (c.loop-done.u < length c.args.src.now) × (c.loop-done.v < length c.args.src.now) = let i = inside 0 sized.0 in
     (omega (arith, i.lumas), omega (arith, i.us), omega (arith, i.vs)) in
-    omega (arith, steps_room.1, first_in.2, c.well_formed.1.1.1.0)
+    omega (arith, steps_room.1, first_in.2)
 
 pub overflow_add-done : goal.overflow_add-done
 overflow_add-done c =

@@ -141,7 +141,7 @@ overflow_add-to-in-loop-i c =
     let l = c.loop-i in
     subst (λ (m : ℕ). l.to + bytes_of g.dst_format ≤ m) (sym l.invariant.2)
     (subst (λ (k : ℕ). k + bytes_of g.dst_format ≤ length g.dst.now) (sym l.invariant.0.afresh) (c.requires.0.destination (g.first + l.i) column)) in
-    omega (arith, room, c.requires.2, c.well_formed.1.0, c.loop-i.invariant.2)
+    omega (arith, room, c.requires.2, c.loop-i.invariant.2)
 
 pub overflow_add-i : goal.overflow_add-i
 overflow_add-i c =
