@@ -3,3 +3,4 @@ pub mod Shifts
 pub mod NearestLaws
 pub mod ExactLaws
 pub mod ExpansionLaws
+pub mod TopBit

@@ -55,6 +55,7 @@ pub fn expand6(v: u16) -> u8
 }
 
 // A byte as one bit: whether it is 128 or more.
+#[tactic(auto, using(crate::proofs::TopBit::top_bit_set, crate::proofs::TopBit::top_bit_clear))]
 pub fn truncate1(v: u8) -> u16
     ensures { result ≡ truncated 1 v }
 {

@@ -1,3 +1,4 @@
 -- What the proofs of several functions use.
 pub mod Rows
 pub mod Arms
+pub mod AboveInfinity

@@ -19,6 +19,7 @@ use depth_pixels::{
 use words::le32;
 
 // The depth whose four bytes begin at byte `at` of a depth plane. A NaN's bytes and those of a negative number count as 0.
+#[tactic(auto, using(crate::proofs::AboveInfinity::above_infinity))]
 fn load_depth(plane: &[u8], at: usize) -> f32
     requires { at + 4 ≤ length plane.now }
     ensures same { clamped result ≡ clamped (depth_at plane.now at) }

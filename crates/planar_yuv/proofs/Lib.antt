@@ -2,3 +2,4 @@
 pub mod Bounds
 pub mod ApartLaws
 pub mod AnswersLaws
+pub mod TooWide

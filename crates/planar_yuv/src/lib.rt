@@ -131,6 +131,7 @@ fn layout_from_pitch(d3d_format: u32, pitch: u32, luma_rows: u32) -> PlanarYuvAn
 }
 
 // The rules that both formats share, which are all of NV12's.
+#[tactic(auto, using(crate::proofs::TooWide::too_wide))]
 fn nv12_layout(pitch: u32, luma_rows: u32) -> PlanarYuvAnswer
     ensures { reply_of result ≡ from_pitch NV12 pitch luma_rows }
 {

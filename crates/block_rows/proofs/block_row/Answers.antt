@@ -91,7 +91,8 @@ rewrite_texels-requires c =
     let to_fits : c.args.z * c.args.region.dst_slice_pitch + (c.args.region.dst_y + c.args.row) * c.args.region.dst_pitch + c.args.region.dst_x * c.args.to_size + c.args.region.width * bytes_of c.args.dst_format ≤ length c.args.dst.now = let g = c.args in
     row_write bt601 g.src.now (length g.dst.now) g.src_format g.dst_format g.region g.z g.row c.requires.0 c.requires.1 g.from_size g.to_size c.requires.2 c.requires.3 in
     let g = c.args in
-    let e : bytes_of g.src_format ≡ 4 = ap bytes_of c.if-src_format-eq-D3DFMT_A8R8G8B8.true in
+    let lying : g.src_format ≡ 21 = omega arith in
+    let e : bytes_of g.src_format ≡ 4 = ap bytes_of lying in
     let four : g.region.width * bytes_of g.src_format ≡ g.region.width * 4 = ap (λ n. g.region.width * n) e in
     (convert_rgb g.src_format g.dst_format c.requires.0.pair, omega (arith, from_fits, four), to_fits)
 

@@ -10,9 +10,8 @@ use lib.Ieee.{binary32, of_bits, nan_bits}
 use lib.Ieee.Bits.{nan_bits_is, nan_bits_above}
 use Rattle.words.specs.Little.{number}
 use Rattle.words.specs.Slices.{part_read}
-use Rattle.channels.specs.Floats.{clamped, as_zero}
+use Rattle.channels.specs.Floats.{clamped}
 use Rattle.depth_pixels.specs.PixelBytes.{depth_at}
-use Rattle.depth_pixels.proofs.Patterns.{zero_number}
 use Rattle.depth_rows.proofs.load_depth.Goals as goal
 
 bits_read : (plane : List ℕ) (at bits : ℕ) → bits ≡ number (take 4 (take (length plane - at) (drop at plane))) → depth_at plane at ≡ of_bits binary32 bits
@@ -24,11 +23,6 @@ no_nan_bits b h = not_T (nan_bits binary32 b) (λ t. above b h (ltb→lt 2139095
   where
     above : (n : ℕ) → n ≤ 2139095040 → 2139095040 < n % 2147483648 → ⊥
     above n h k = omega arith
-
-pub returns-then-bits-gt2139095040 : goal.returns-then-bits-gt2139095040
-returns-then-bits-gt2139095040 c =
-    let g = c.args in
-    record { same = as_zero c.le32-bits.result c.if-bits-gt2139095040.true ∙ ap clamped (sym (bits_read g.plane.now g.at _ c.le32-bits.ensures)); number = zero_number }
 
 pub float_from_bits-result : goal.float_from_bits-result
 float_from_bits-result c =

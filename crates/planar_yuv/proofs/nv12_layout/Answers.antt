@@ -10,10 +10,6 @@ pub returns-then-pitch-eq0 : goal.returns-then-pitch-eq0
 returns-then-pitch-eq0 c =
     sym (not_given (λ a. omega (arith, a.pitch_some)))
 
-pub returns-then-pitch-gt-MAX_TEXTURE_DIM : goal.returns-then-pitch-gt-MAX_TEXTURE_DIM
-returns-then-pitch-gt-MAX_TEXTURE_DIM c =
-    sym (not_given (λ a. omega (arith, a.pitch_most)))
-
 pub returns-then-pitch-ne0 : goal.returns-then-pitch-ne0
 returns-then-pitch-ne0 c =
     sym (not_given (λ a. c.if-pitch-ne0.true a.pitch_even))
@@ -42,10 +38,10 @@ returns c =
     (record {
       planar = refl;
       pitch_some = omega arith;
-      pitch_most = c.if-pitch-gt-MAX_TEXTURE_DIM.false;
+      pitch_most = omega arith;
       pitch_even = c.if-pitch-ne0.false;
       rows_some = omega arith;
-      rows_most = c.if-luma_rows-gt-MAX_TEXTURE_DIM.false;
+      rows_most = omega arith;
       rows_even = λ e. absurd (omega (arith, e));
-      together = c.if-storage_rows-gt-MAX_TEXTURE_DIM.false;
+      together = omega arith;
     }))

@@ -19,4 +19,4 @@ returns c =
     let s = c.args in
     let r = c.layout_from_pitch.result in
     let e : reply_of r ≡ from_pitch s.d3d_format (linear_row_pitch s.width) s.height =
-    c.layout_from_pitch.ensures ∙ ap (λ p. from_pitch s.d3d_format p s.height) c.linear_row_pitch-pitch.ensures.is in record { reply = e ∙ sym (of_width s.d3d_format s.width s.height (omega arith) c.if-width-gt-MAX_TEXTURE_DIM.false); planes = planes_of s.d3d_format (linear_row_pitch s.width) s.height r e; rows = rows_hold s.d3d_format s.width s.height r e }
+    c.layout_from_pitch.ensures ∙ ap (λ p. from_pitch s.d3d_format p s.height) c.linear_row_pitch-pitch.ensures.is in record { reply = e ∙ sym (of_width s.d3d_format s.width s.height (omega arith) (omega arith)); planes = planes_of s.d3d_format (linear_row_pitch s.width) s.height r e; rows = rows_hold s.d3d_format s.width s.height r e }

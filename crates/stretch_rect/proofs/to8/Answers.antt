@@ -52,7 +52,7 @@ overflow_cast-result c =
     let channel-is : to_z w64 (of_z w64 c.args.channel) ≡ c.args.channel = kept refl c.ranges.channel in
     let f1 : SFits w64 (c.args.channel +ℤ pos 32768) = small (plus (of_mag c.args.channel c.requires) (of_pos 32768)) tt tt in
     let n_is : to_z w64 (of_z w64 (shr_z (to_z w64 (of_z w64 (to_z w64 (of_z w64 c.args.channel) +ℤ pos 32768))) 65536)) ≡ floor_div (c.args.channel +ℤ pos 32768) 65536 = shifted 65536 (gives ◌+ℤ◌ channel-is refl f1) f1 in
-    let mid : T (non_neg (floor_div (c.args.channel +ℤ pos 32768) 65536)) × Fits w8 (nat_abs (floor_div (c.args.channel +ℤ pos 32768) 65536)) × (nat_abs (floor_div (c.args.channel +ℤ pos 32768) 65536) ≡ clamp_to 255 (floor_div (c.args.channel +ℤ pos 32768) 65536)) = between _ (subst (λ (v : ℤ). lt_z v (pos 0) ≡ false) n_is c.if-n-lt0.false) (subst (λ (v : ℤ). lt_z v (pos 255) ≡ true) n_is c.if-n-lt255.true) in
+    let mid : T (non_neg (floor_div (c.args.channel +ℤ pos 32768) 65536)) × Fits w8 (nat_abs (floor_div (c.args.channel +ℤ pos 32768) 65536)) × (nat_abs (floor_div (c.args.channel +ℤ pos 32768) 65536) ≡ clamp_to 255 (floor_div (c.args.channel +ℤ pos 32768) 65536)) = between _ (subst (λ (v : ℤ). lt_z v (pos 0) ≡ false) n_is assumption) (subst (λ (v : ℤ). lt_z v (pos 255) ≡ true) n_is assumption) in
     subst (λ (v : ℤ). T (non_neg v) × Fits w8 (nat_abs v)) (sym n_is) (mid.0, mid.1)
 
 pub returns-then-n-lt255 : goal.returns-then-n-lt255
@@ -61,7 +61,7 @@ returns-then-n-lt255 c =
     let channel-is : to_z w64 (of_z w64 c.args.channel) ≡ c.args.channel = kept refl c.ranges.channel in
     let f1 : SFits w64 (c.args.channel +ℤ pos 32768) = small (plus (of_mag c.args.channel c.requires) (of_pos 32768)) tt tt in
     let n_is : to_z w64 (of_z w64 (shr_z (to_z w64 (of_z w64 (to_z w64 (of_z w64 c.args.channel) +ℤ pos 32768))) 65536)) ≡ floor_div (c.args.channel +ℤ pos 32768) 65536 = shifted 65536 (gives ◌+ℤ◌ channel-is refl f1) f1 in
-    let mid : T (non_neg (floor_div (c.args.channel +ℤ pos 32768) 65536)) × Fits w8 (nat_abs (floor_div (c.args.channel +ℤ pos 32768) 65536)) × (nat_abs (floor_div (c.args.channel +ℤ pos 32768) 65536) ≡ clamp_to 255 (floor_div (c.args.channel +ℤ pos 32768) 65536)) = between _ (subst (λ (v : ℤ). lt_z v (pos 0) ≡ false) n_is c.if-n-lt0.false) (subst (λ (v : ℤ). lt_z v (pos 255) ≡ true) n_is c.if-n-lt255.true) in
+    let mid : T (non_neg (floor_div (c.args.channel +ℤ pos 32768) 65536)) × Fits w8 (nat_abs (floor_div (c.args.channel +ℤ pos 32768) 65536)) × (nat_abs (floor_div (c.args.channel +ℤ pos 32768) 65536) ≡ clamp_to 255 (floor_div (c.args.channel +ℤ pos 32768) 65536)) = between _ (subst (λ (v : ℤ). lt_z v (pos 0) ≡ false) n_is assumption) (subst (λ (v : ℤ). lt_z v (pos 255) ≡ true) n_is assumption) in
     ap nat_abs n_is ∙ mid.2
 
 pub returns : goal.returns

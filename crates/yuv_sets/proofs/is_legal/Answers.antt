@@ -18,7 +18,7 @@ unfolding is_legal
 returns-then-numbers-gt4194303 c =
     let set1 : YuvSet = c.args.numbers in
     let passed1 : is_gain set1.luma_gain ≡ true = sym c.is_gain.ensures ∙ c.if-not-is_gain.false in
-    rw (passed1, lt-leb set1.luma_offset 4194303 (omega (arith, c.if-numbers-gt4194303.true))) refl
+    rw (passed1, lt-leb set1.luma_offset 4194303 (omega arith)) refl
 
 pub returns-then-not-is_gain-2 : goal.returns-then-not-is_gain-2
 unfolding is_legal
@@ -26,7 +26,7 @@ returns-then-not-is_gain-2 c =
     let set1 : YuvSet = c.args.numbers in
     let passed1 : is_gain set1.luma_gain ≡ true = sym c.is_gain.ensures ∙ c.if-not-is_gain.false in
     let set2 : YuvSet = set1 in
-    let passed2 : leb set2.luma_offset 4194303 ≡ true = le-leb set2.luma_offset 4194303 (omega (arith, c.if-numbers-gt4194303.false)) in
+    let passed2 : leb set2.luma_offset 4194303 ≡ true = le-leb set2.luma_offset 4194303 (omega arith) in
     rw (passed1, passed2, sym c.is_gain-2.ensures ∙ c.if-not-is_gain-2.true) refl
 
 pub returns-then-not-is_gain-3 : goal.returns-then-not-is_gain-3
@@ -35,7 +35,7 @@ returns-then-not-is_gain-3 c =
     let set1 : YuvSet = c.args.numbers in
     let passed1 : is_gain set1.luma_gain ≡ true = sym c.is_gain.ensures ∙ c.if-not-is_gain.false in
     let set2 : YuvSet = set1 in
-    let passed2 : leb set2.luma_offset 4194303 ≡ true = le-leb set2.luma_offset 4194303 (omega (arith, c.if-numbers-gt4194303.false)) in
+    let passed2 : leb set2.luma_offset 4194303 ≡ true = le-leb set2.luma_offset 4194303 (omega arith) in
     let set3 : YuvSet = set2 in
     let passed3 : is_gain set3.v_to_red ≡ true = sym c.is_gain-2.ensures ∙ c.if-not-is_gain-2.false in
     rw (passed1, passed2, passed3, sym c.is_gain-3.ensures ∙ c.if-not-is_gain-3.true) refl
@@ -46,7 +46,7 @@ returns-then-not-is_gain-4 c =
     let set1 : YuvSet = c.args.numbers in
     let passed1 : is_gain set1.luma_gain ≡ true = sym c.is_gain.ensures ∙ c.if-not-is_gain.false in
     let set2 : YuvSet = set1 in
-    let passed2 : leb set2.luma_offset 4194303 ≡ true = le-leb set2.luma_offset 4194303 (omega (arith, c.if-numbers-gt4194303.false)) in
+    let passed2 : leb set2.luma_offset 4194303 ≡ true = le-leb set2.luma_offset 4194303 (omega arith) in
     let set3 : YuvSet = set2 in
     let passed3 : is_gain set3.v_to_red ≡ true = sym c.is_gain-2.ensures ∙ c.if-not-is_gain-2.false in
     let set4 : YuvSet = set3 in
@@ -59,7 +59,7 @@ returns-then-not-is_gain-5 c =
     let set1 : YuvSet = c.args.numbers in
     let passed1 : is_gain set1.luma_gain ≡ true = sym c.is_gain.ensures ∙ c.if-not-is_gain.false in
     let set2 : YuvSet = set1 in
-    let passed2 : leb set2.luma_offset 4194303 ≡ true = le-leb set2.luma_offset 4194303 (omega (arith, c.if-numbers-gt4194303.false)) in
+    let passed2 : leb set2.luma_offset 4194303 ≡ true = le-leb set2.luma_offset 4194303 (omega arith) in
     let set3 : YuvSet = set2 in
     let passed3 : is_gain set3.v_to_red ≡ true = sym c.is_gain-2.ensures ∙ c.if-not-is_gain-2.false in
     let set4 : YuvSet = set3 in
@@ -78,7 +78,7 @@ returns-then-numbers-eq255 c =
     let set5 : YuvSet = set4 in
     let set6 : YuvSet = set5 in
     let passed1 : is_gain set1.luma_gain ≡ true = sym c.is_gain.ensures ∙ c.if-not-is_gain.false in
-    let passed2 : leb set2.luma_offset 4194303 ≡ true = le-leb set2.luma_offset 4194303 (omega (arith, c.if-numbers-gt4194303.false)) in
+    let passed2 : leb set2.luma_offset 4194303 ≡ true = le-leb set2.luma_offset 4194303 (omega arith) in
     let passed3 : is_gain set3.v_to_red ≡ true = sym c.is_gain-2.ensures ∙ c.if-not-is_gain-2.false in
     let passed4 : is_gain set4.u_to_green ≡ true = sym c.is_gain-3.ensures ∙ c.if-not-is_gain-3.false in
     let passed5 : is_gain set5.v_to_green ≡ true = sym c.is_gain-4.ensures ∙ c.if-not-is_gain-4.false in
@@ -96,7 +96,7 @@ returns c =
     let set6 : YuvSet = set5 in
     let set7 : YuvSet = set6 in
     let passed1 : is_gain set1.luma_gain ≡ true = sym c.is_gain.ensures ∙ c.if-not-is_gain.false in
-    let passed2 : leb set2.luma_offset 4194303 ≡ true = le-leb set2.luma_offset 4194303 (omega (arith, c.if-numbers-gt4194303.false)) in
+    let passed2 : leb set2.luma_offset 4194303 ≡ true = le-leb set2.luma_offset 4194303 (omega arith) in
     let passed3 : is_gain set3.v_to_red ≡ true = sym c.is_gain-2.ensures ∙ c.if-not-is_gain-2.false in
     let passed4 : is_gain set4.u_to_green ≡ true = sym c.is_gain-3.ensures ∙ c.if-not-is_gain-3.false in
     let passed5 : is_gain set5.v_to_green ≡ true = sym c.is_gain-4.ensures ∙ c.if-not-is_gain-4.false in
