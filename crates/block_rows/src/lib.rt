@@ -2,39 +2,32 @@
 // into A8R8G8B8. Ported from pixel_convert.rs of athei/mtld3d (an altered version, see NOTICE).
 #![tactic(auto)]
 
-ghost use Rattle.std.specs.Prelude.{◌≡◌, true, ◌≤◌, min, length};
+ghost use Rattle.std.specs.Prelude.{◌≡◌, ◌≤◌, length};
 ghost use Rattle.formats.specs.Table.{bytes_of};
-ghost use Rattle.formats.specs.Classes.{is_lane_source};
+ghost use Rattle.formats.specs.Formats.{rgb_code, lane_source_code};
 ghost use Rattle.yuv_sets.specs.declared.YuvSet.{YuvSet};
 ghost use Rattle.regions.specs.Regions.{row_written};
 ghost use Rattle.regions.specs.Rows.{RowFits};
 
 use convert_reply::ConvertRegion;
-use formats::D3DFMT_A8R8G8B8;
-
-// How many texels of a row the next block takes: 64, or those that are left.
-fn next_block(left: usize) -> usize
-    ensures { result ≡ min left 64 }
-{
-    if left < 64 { left } else { 64 }
-}
+use formats::{LaneSource, RgbFormat};
 
 // A row of a source with lanes, block by block; A8R8G8B8 goes without one. Both offsets are worked out for the row's first texel and
 // carried from there: each loop adds the texel size. A texel of the source has `from_size` bytes, one of the destination `to_size`.
 pub fn block_row(
     block: &mut [u32],
     dst: &mut [u8],
-    dst_format: u32,
+    dst_format: RgbFormat,
     to_size: usize,
     src: &[u8],
-    src_format: u32,
+    src_format: LaneSource,
     from_size: usize,
     region: ConvertRegion,
     z: usize,
     row: usize,
 )
-    requires { (RowFits (length src.now) (length dst.old) src_format dst_format region z row) × (is_lane_source src_format ≡ true) × (from_size ≡ bytes_of src_format) × (to_size ≡ bytes_of dst_format) × (64 ≤ length block.old) }
-    ensures { (numbers : YuvSet) → dst.new ≡ row_written numbers src.now src_format dst_format region z row dst.old }
+    requires { (RowFits (length src.now) (length dst.old) (lane_source_code src_format) (rgb_code dst_format) region z row) × (from_size ≡ bytes_of (lane_source_code src_format)) × (to_size ≡ bytes_of (rgb_code dst_format)) × (64 ≤ length block.old) }
+    ensures { (numbers : YuvSet) → dst.new ≡ row_written numbers src.now (lane_source_code src_format) (rgb_code dst_format) region z row dst.old }
 {
     let from_x = region.src_x as usize;
     let to_x = region.dst_x as usize;
@@ -47,17 +40,15 @@ pub fn block_row(
     let texels = region.width as usize;
     let first_from = z * from_slice + from_y * from_pitch + from_x * from_size;
     let first_to = z * to_slice + to_y * to_pitch + to_x * to_size;
-    if src_format == D3DFMT_A8R8G8B8 {
+    if src_format == LaneSource::Rgb(RgbFormat::A8R8G8B8) {
         blocks::rewrite_texels(texels, src, first_from, dst, dst_format, first_to);
         return;
     }
     let mut from = first_from;
     let mut to = first_to;
-    let mut done: usize = 0;
-    while done < texels {
-        let n = next_block(texels - done);
+    for done in (0..texels).step_by(64) {
+        let n = (texels - done).min(64);
         from = blocks::read_texels(block, n, src, src_format, from);
         to = blocks::write_texels(block, n, dst, dst_format, to);
-        done += n;
     }
 }

@@ -35,6 +35,10 @@ pub record WordsWritten (word : ℕ → ℕ) (f to n : ℕ) (dst out : List ℕ)
   pub bytes : out ≡ iterate (word_written word f to) n dst
   pub carried : off ≡ to + n * bytes_of f
 
+-- all that may be answered at k is word k, for each k below n
+abbrev pub Gives : (answer : ℕ → ℕ → Type 0) (n : ℕ) (word : ℕ → ℕ) → Type 0
+Gives answer n word = (k w : ℕ) → k < n → answer k w → w ≡ word k
+
 -- the words of a block
 abbrev pub word_of : List ℕ → ℕ → ℕ
 word_of block k = get_or block k 0
@@ -42,11 +46,6 @@ word_of block k = get_or block k 0
 -- the words of A8R8G8B8 texels where they lie, from byte from on
 abbrev pub word_in : (src : List ℕ) (from k : ℕ) → ℕ
 word_in src from k = number (take 4 (drop (from + k * 4) src))
-
--- they were written, and the offset carried past them in the source is where the next one lies
-pub record WordsRewritten (src : List ℕ) (from f to n : ℕ) (dst out : List ℕ) (at off : ℕ) : Type 0 where
-  pub written : WordsWritten (word_in src from) f to n dst out off
-  pub carried : at ≡ from + n * 4
 
 -- ---- one texel more
 -- the step is added once more

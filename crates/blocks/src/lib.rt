@@ -4,18 +4,13 @@
 // Ported from pixel_convert.rs of athei/mtld3d (an altered version, see NOTICE).
 #![tactic(auto)]
 
-ghost use Rattle.std.specs.Prelude.{◌≡◌, true, ◌+◌, ◌*◌, ◌≤◌, ◌<◌, length};
+ghost use Rattle.std.specs.Prelude.{◌≡◌, ℕ, ◌+◌, ◌*◌, ◌≤◌, ◌<◌, length};
 ghost use Rattle.formats.specs.Codes.{R8G8B8};
 ghost use Rattle.formats.specs.Table.{bytes_of};
-ghost use Rattle.formats.specs.Classes.{is_convertible_rgb, is_lane_source};
-ghost use Rattle.blocks.specs.Blocks.{TexelsIn, BlockRead, WordsWritten, word_of, word_in};
+ghost use Rattle.formats.specs.Formats.{rgb_code, code_source_code, lane_source_code};
+ghost use Rattle.blocks.specs.Blocks.{TexelsIn, BlockRead, WordsWritten, Gives, word_of, word_in};
 
-use formats::{
-    D3DFMT_A1R5G5B5, D3DFMT_A2B10G10R10, D3DFMT_A2R10G10B10, D3DFMT_A4R4G4B4, D3DFMT_A8,
-    D3DFMT_A8B8G8R8, D3DFMT_A8L8, D3DFMT_A8R8G8B8, D3DFMT_A16B16G16R16, D3DFMT_A32B32G32R32F,
-    D3DFMT_G16R16, D3DFMT_L8, D3DFMT_L16, D3DFMT_Q8W8V8U8, D3DFMT_R5G6B5, D3DFMT_R8G8B8,
-    D3DFMT_V8U8, D3DFMT_X1R5G5B5, D3DFMT_X8B8G8R8, D3DFMT_X8R8G8B8,
-};
+use formats::{CodeSource, LaneSource, RgbFormat};
 
 // ---- reading
 
@@ -24,21 +19,50 @@ fn read_block(
     block: &mut [u32],
     n: usize,
     src: &[u8],
-    d3d_format: u32,
+    format: LaneSource,
     step: usize,
     from: usize,
 ) -> usize
-    requires { (is_lane_source d3d_format ≡ true) × (step ≤ bytes_of d3d_format) × (n ≤ length block.old) × TexelsIn (length src.now) from step (bytes_of d3d_format) n }
-    ensures { BlockRead src.now d3d_format step from n block.new result }
+    requires { (step ≤ bytes_of (lane_source_code format)) × (n ≤ length block.old) × TexelsIn (length src.now) from step (bytes_of (lane_source_code format)) n }
+    ensures { BlockRead src.now (lane_source_code format) step from n block.new result }
 {
     let mut off = from;
-    let mut i: usize = 0;
-    while i < n {
-        block[i] = texel_words::read_word(d3d_format, &src[off..]);
+    for word in &mut block[..n] {
+        *word = texel_words::read_word(format, &src[off..]);
         off += step;
-        i += 1;
     }
     off
+}
+
+// Two such: one function over `Into<LaneSource>` would state its contract by what `into` may give, and so would each of its calls.
+// The same of an RGB format.
+fn read_rgb_block(
+    block: &mut [u32],
+    n: usize,
+    src: &[u8],
+    format: RgbFormat,
+    step: usize,
+    from: usize,
+) -> usize
+    requires { (step ≤ bytes_of (rgb_code format)) × (n ≤ length block.old) × TexelsIn (length src.now) from step (bytes_of (rgb_code format)) n }
+    ensures { BlockRead src.now (rgb_code format) step from n block.new result }
+{
+    read_block(block, n, src, LaneSource::Rgb(format), step, from)
+}
+
+// The same of a source of whole numbers.
+fn read_code_block(
+    block: &mut [u32],
+    n: usize,
+    src: &[u8],
+    format: CodeSource,
+    step: usize,
+    from: usize,
+) -> usize
+    requires { (step ≤ bytes_of (code_source_code format)) × (n ≤ length block.old) × TexelsIn (length src.now) from step (bytes_of (code_source_code format)) n }
+    ensures { BlockRead src.now (code_source_code format) step from n block.new result }
+{
+    read_block(block, n, src, LaneSource::Codes(format), step, from)
 }
 
 // The same of R8G8B8. All but the last texel are read as X8R8G8B8, with the byte after their three: one load does for it.
@@ -47,142 +71,144 @@ fn read_r8g8b8(block: &mut [u32], n: usize, src: &[u8], from: usize) -> usize
     ensures { BlockRead src.now R8G8B8 3 from n block.new result }
 {
     let last = n - 1;
-    let off = read_block(block, last, src, D3DFMT_X8R8G8B8, 3, from);
-    block[last] = texel_words::read_word(D3DFMT_R8G8B8, &src[off..]);
+    let off = read_rgb_block(block, last, src, RgbFormat::X8R8G8B8, 3, from);
+    block[last] = texel_words::read_word(LaneSource::Rgb(RgbFormat::R8G8B8), &src[off..]);
     off + 3
 }
 
-// n texels from byte `from` on, as words at the front of `block`; returns where the next one starts. Each arm hands its format and
-// its size on as literals, so that the compiler makes a loop of its own for it.
-pub fn read_texels(block: &mut [u32], n: usize, src: &[u8], d3d_format: u32, from: usize) -> usize
-    requires { (is_lane_source d3d_format ≡ true) × (0 < n) × (n ≤ length block.old) × (from + n * bytes_of d3d_format ≤ length src.now) }
-    ensures { BlockRead src.now d3d_format (bytes_of d3d_format) from n block.new result }
+// n texels of an RGB format from byte `from` on. Each arm hands its format and its size on as literals, so that the compiler makes a
+// loop of its own for it.
+fn read_rgb(block: &mut [u32], n: usize, src: &[u8], format: RgbFormat, from: usize) -> usize
+    requires { (0 < n) × (n ≤ length block.old) × (from + n * bytes_of (rgb_code format) ≤ length src.now) }
+    ensures { BlockRead src.now (rgb_code format) (bytes_of (rgb_code format)) from n block.new result }
 {
-    match d3d_format {
-        D3DFMT_R8G8B8 => read_r8g8b8(block, n, src, from),
-        D3DFMT_A8R8G8B8 => read_block(block, n, src, D3DFMT_A8R8G8B8, 4, from),
-        D3DFMT_X8R8G8B8 => read_block(block, n, src, D3DFMT_X8R8G8B8, 4, from),
-        D3DFMT_R5G6B5 => read_block(block, n, src, D3DFMT_R5G6B5, 2, from),
-        D3DFMT_X1R5G5B5 => read_block(block, n, src, D3DFMT_X1R5G5B5, 2, from),
-        D3DFMT_A1R5G5B5 => read_block(block, n, src, D3DFMT_A1R5G5B5, 2, from),
-        D3DFMT_A4R4G4B4 => read_block(block, n, src, D3DFMT_A4R4G4B4, 2, from),
-        D3DFMT_A8 => read_block(block, n, src, D3DFMT_A8, 1, from),
-        D3DFMT_A8B8G8R8 => read_block(block, n, src, D3DFMT_A8B8G8R8, 4, from),
-        D3DFMT_X8B8G8R8 => read_block(block, n, src, D3DFMT_X8B8G8R8, 4, from),
-        D3DFMT_L8 => read_block(block, n, src, D3DFMT_L8, 1, from),
-        D3DFMT_A8L8 => read_block(block, n, src, D3DFMT_A8L8, 2, from),
-        D3DFMT_A32B32G32R32F => read_block(block, n, src, D3DFMT_A32B32G32R32F, 16, from),
-        D3DFMT_A16B16G16R16 => read_block(block, n, src, D3DFMT_A16B16G16R16, 8, from),
-        D3DFMT_A2R10G10B10 => read_block(block, n, src, D3DFMT_A2R10G10B10, 4, from),
-        D3DFMT_A2B10G10R10 => read_block(block, n, src, D3DFMT_A2B10G10R10, 4, from),
-        D3DFMT_G16R16 => read_block(block, n, src, D3DFMT_G16R16, 4, from),
-        D3DFMT_L16 => read_block(block, n, src, D3DFMT_L16, 2, from),
-        D3DFMT_V8U8 => read_block(block, n, src, D3DFMT_V8U8, 2, from),
-        D3DFMT_Q8W8V8U8 => read_block(block, n, src, D3DFMT_Q8W8V8U8, 4, from),
-        _ => from,
+    match format {
+        RgbFormat::R8G8B8 => read_r8g8b8(block, n, src, from),
+        RgbFormat::A8R8G8B8 => read_rgb_block(block, n, src, RgbFormat::A8R8G8B8, 4, from),
+        RgbFormat::X8R8G8B8 => read_rgb_block(block, n, src, RgbFormat::X8R8G8B8, 4, from),
+        RgbFormat::R5G6B5 => read_rgb_block(block, n, src, RgbFormat::R5G6B5, 2, from),
+        RgbFormat::X1R5G5B5 => read_rgb_block(block, n, src, RgbFormat::X1R5G5B5, 2, from),
+        RgbFormat::A1R5G5B5 => read_rgb_block(block, n, src, RgbFormat::A1R5G5B5, 2, from),
+        RgbFormat::A4R4G4B4 => read_rgb_block(block, n, src, RgbFormat::A4R4G4B4, 2, from),
+        RgbFormat::A8 => read_rgb_block(block, n, src, RgbFormat::A8, 1, from),
+        RgbFormat::A8B8G8R8 => read_rgb_block(block, n, src, RgbFormat::A8B8G8R8, 4, from),
+        RgbFormat::X8B8G8R8 => read_rgb_block(block, n, src, RgbFormat::X8B8G8R8, 4, from),
+        RgbFormat::L8 => read_rgb_block(block, n, src, RgbFormat::L8, 1, from),
+        RgbFormat::A8L8 => read_rgb_block(block, n, src, RgbFormat::A8L8, 2, from),
+    }
+}
+
+// The same of a source of whole numbers.
+fn read_codes(block: &mut [u32], n: usize, src: &[u8], format: CodeSource, from: usize) -> usize
+    requires { (0 < n) × (n ≤ length block.old) × (from + n * bytes_of (code_source_code format) ≤ length src.now) }
+    ensures { BlockRead src.now (code_source_code format) (bytes_of (code_source_code format)) from n block.new result }
+{
+    match format {
+        CodeSource::A16B16G16R16 => read_code_block(
+            block,
+            n,
+            src,
+            CodeSource::A16B16G16R16,
+            8,
+            from,
+        ),
+        CodeSource::A2R10G10B10 => read_code_block(block, n, src, CodeSource::A2R10G10B10, 4, from),
+        CodeSource::A2B10G10R10 => read_code_block(block, n, src, CodeSource::A2B10G10R10, 4, from),
+        CodeSource::G16R16 => read_code_block(block, n, src, CodeSource::G16R16, 4, from),
+        CodeSource::L16 => read_code_block(block, n, src, CodeSource::L16, 2, from),
+        CodeSource::V8U8 => read_code_block(block, n, src, CodeSource::V8U8, 2, from),
+        CodeSource::Q8W8V8U8 => read_code_block(block, n, src, CodeSource::Q8W8V8U8, 4, from),
+    }
+}
+
+// n texels from byte `from` on, as words at the front of `block`; returns where the next one starts.
+pub fn read_texels(
+    block: &mut [u32],
+    n: usize,
+    src: &[u8],
+    format: LaneSource,
+    from: usize,
+) -> usize
+    requires { (0 < n) × (n ≤ length block.old) × (from + n * bytes_of (lane_source_code format) ≤ length src.now) }
+    ensures { BlockRead src.now (lane_source_code format) (bytes_of (lane_source_code format)) from n block.new result }
+{
+    match format {
+        LaneSource::Rgb(rgb) => read_rgb(block, n, src, rgb, from),
+        LaneSource::Codes(codes) => read_codes(block, n, src, codes, from),
+        LaneSource::Floats => read_block(block, n, src, LaneSource::Floats, 16, from),
     }
 }
 
 // ---- writing
 
-// The texels of n words at the front of `block`, in `size` bytes each from byte `to` on; returns where the next one starts.
-fn write_block(
-    block: &[u32],
+// The texels of n words, in `size` bytes each from byte `to` on, where `word` gives the k-th; returns where the next one starts.
+fn write_block<W: Fn(usize) -> u32>(
+    word: W,
     n: usize,
     dst: &mut [u8],
-    d3d_format: u32,
+    format: RgbFormat,
     size: usize,
     to: usize,
 ) -> usize
-    requires { (is_convertible_rgb d3d_format ≡ true) × (size ≡ bytes_of d3d_format) × (n ≤ length block.now) × (to + n * bytes_of d3d_format ≤ length dst.old) }
-    ensures { WordsWritten (word_of block.now) d3d_format to n dst.old dst.new result }
+    requires words { (k : ℕ) → k < n → W.pre word k }
+    requires room { (size ≡ bytes_of (rgb_code format)) × (to + n * bytes_of (rgb_code format) ≤ length dst.old) }
+    ensures { (given : ℕ → ℕ) → Gives (W.post word) n given → WordsWritten given (rgb_code format) to n dst.old dst.new result }
 {
     let mut off = to;
-    let mut i: usize = 0;
-    while i < n {
-        texel_words::write_word(d3d_format, block[i], &mut dst[off..]);
+    for k in 0..n {
+        texel_words::write_word(format, word(k), &mut dst[off..]);
         off += size;
-        i += 1;
     }
     off
 }
 
 // The same for the format at hand, which each arm hands on as a literal.
-pub fn write_texels(block: &[u32], n: usize, dst: &mut [u8], d3d_format: u32, to: usize) -> usize
-    requires { (is_convertible_rgb d3d_format ≡ true) × (n ≤ length block.now) × (to + n * bytes_of d3d_format ≤ length dst.old) }
-    ensures { WordsWritten (word_of block.now) d3d_format to n dst.old dst.new result }
-{
-    match d3d_format {
-        D3DFMT_R8G8B8 => write_block(block, n, dst, D3DFMT_R8G8B8, 3, to),
-        D3DFMT_A8R8G8B8 => write_block(block, n, dst, D3DFMT_A8R8G8B8, 4, to),
-        D3DFMT_X8R8G8B8 => write_block(block, n, dst, D3DFMT_X8R8G8B8, 4, to),
-        D3DFMT_R5G6B5 => write_block(block, n, dst, D3DFMT_R5G6B5, 2, to),
-        D3DFMT_X1R5G5B5 => write_block(block, n, dst, D3DFMT_X1R5G5B5, 2, to),
-        D3DFMT_A1R5G5B5 => write_block(block, n, dst, D3DFMT_A1R5G5B5, 2, to),
-        D3DFMT_A4R4G4B4 => write_block(block, n, dst, D3DFMT_A4R4G4B4, 2, to),
-        D3DFMT_A8 => write_block(block, n, dst, D3DFMT_A8, 1, to),
-        D3DFMT_A8B8G8R8 => write_block(block, n, dst, D3DFMT_A8B8G8R8, 4, to),
-        D3DFMT_X8B8G8R8 => write_block(block, n, dst, D3DFMT_X8B8G8R8, 4, to),
-        D3DFMT_L8 => write_block(block, n, dst, D3DFMT_L8, 1, to),
-        D3DFMT_A8L8 => write_block(block, n, dst, D3DFMT_A8L8, 2, to),
-        _ => to,
-    }
-}
-
-// ---- A8R8G8B8, which needs no block: its texels are such words where they lie
-
-// n texels of A8R8G8B8 from byte `from` of the source on, in `size` bytes each from byte `to` of the destination on; returns where the
-// next one goes. Both offsets are carried.
-fn rewrite_block(
+fn write_words<W: Fn(usize) -> u32>(
+    word: W,
     n: usize,
-    src: &[u8],
-    from: usize,
     dst: &mut [u8],
-    d3d_format: u32,
-    size: usize,
+    format: RgbFormat,
     to: usize,
 ) -> usize
-    requires { (is_convertible_rgb d3d_format ≡ true) × (size ≡ bytes_of d3d_format) × (from + n * 4 ≤ length src.now) × (to + n * bytes_of d3d_format ≤ length dst.old) }
-    ensures { WordsWritten (word_in src.now from) d3d_format to n dst.old dst.new result }
+    requires words { (k : ℕ) → k < n → W.pre word k }
+    requires room { (to + n * bytes_of (rgb_code format) ≤ length dst.old) }
+    ensures { (given : ℕ → ℕ) → Gives (W.post word) n given → WordsWritten given (rgb_code format) to n dst.old dst.new result }
 {
-    let mut at = from;
-    let mut place = to;
-    let mut i: usize = 0;
-    while i < n {
-        let word = words::le32(&src[at..]);
-        texel_words::write_word(d3d_format, word, &mut dst[place..]);
-        at += 4;
-        place += size;
-        i += 1;
+    match format {
+        RgbFormat::R8G8B8 => write_block(word, n, dst, RgbFormat::R8G8B8, 3, to),
+        RgbFormat::A8R8G8B8 => write_block(word, n, dst, RgbFormat::A8R8G8B8, 4, to),
+        RgbFormat::X8R8G8B8 => write_block(word, n, dst, RgbFormat::X8R8G8B8, 4, to),
+        RgbFormat::R5G6B5 => write_block(word, n, dst, RgbFormat::R5G6B5, 2, to),
+        RgbFormat::X1R5G5B5 => write_block(word, n, dst, RgbFormat::X1R5G5B5, 2, to),
+        RgbFormat::A1R5G5B5 => write_block(word, n, dst, RgbFormat::A1R5G5B5, 2, to),
+        RgbFormat::A4R4G4B4 => write_block(word, n, dst, RgbFormat::A4R4G4B4, 2, to),
+        RgbFormat::A8 => write_block(word, n, dst, RgbFormat::A8, 1, to),
+        RgbFormat::A8B8G8R8 => write_block(word, n, dst, RgbFormat::A8B8G8R8, 4, to),
+        RgbFormat::X8B8G8R8 => write_block(word, n, dst, RgbFormat::X8B8G8R8, 4, to),
+        RgbFormat::L8 => write_block(word, n, dst, RgbFormat::L8, 1, to),
+        RgbFormat::A8L8 => write_block(word, n, dst, RgbFormat::A8L8, 2, to),
     }
-    place
 }
 
-// The same for the format at hand, which each arm hands on as a literal.
+// The texels of n words at the front of `block` from byte `to` on; returns where the next one starts.
+pub fn write_texels(block: &[u32], n: usize, dst: &mut [u8], format: RgbFormat, to: usize) -> usize
+    requires { (n ≤ length block.now) × (to + n * bytes_of (rgb_code format) ≤ length dst.old) }
+    ensures { WordsWritten (word_of block.now) (rgb_code format) to n dst.old dst.new result }
+{
+    write_words(|k| block[k], n, dst, format, to)
+}
+
+// The same of A8R8G8B8 texels from byte `from` of the source on. They need no block: they are such words where they lie.
 pub fn rewrite_texels(
     n: usize,
     src: &[u8],
     from: usize,
     dst: &mut [u8],
-    d3d_format: u32,
+    format: RgbFormat,
     to: usize,
 ) -> usize
-    requires { (is_convertible_rgb d3d_format ≡ true) × (from + n * 4 ≤ length src.now) × (to + n * bytes_of d3d_format ≤ length dst.old) }
-    ensures { WordsWritten (word_in src.now from) d3d_format to n dst.old dst.new result }
+    requires { (from + n * 4 ≤ length src.now) × (to + n * bytes_of (rgb_code format) ≤ length dst.old) }
+    ensures { WordsWritten (word_in src.now from) (rgb_code format) to n dst.old dst.new result }
 {
-    match d3d_format {
-        D3DFMT_R8G8B8 => rewrite_block(n, src, from, dst, D3DFMT_R8G8B8, 3, to),
-        D3DFMT_A8R8G8B8 => rewrite_block(n, src, from, dst, D3DFMT_A8R8G8B8, 4, to),
-        D3DFMT_X8R8G8B8 => rewrite_block(n, src, from, dst, D3DFMT_X8R8G8B8, 4, to),
-        D3DFMT_R5G6B5 => rewrite_block(n, src, from, dst, D3DFMT_R5G6B5, 2, to),
-        D3DFMT_X1R5G5B5 => rewrite_block(n, src, from, dst, D3DFMT_X1R5G5B5, 2, to),
-        D3DFMT_A1R5G5B5 => rewrite_block(n, src, from, dst, D3DFMT_A1R5G5B5, 2, to),
-        D3DFMT_A4R4G4B4 => rewrite_block(n, src, from, dst, D3DFMT_A4R4G4B4, 2, to),
-        D3DFMT_A8 => rewrite_block(n, src, from, dst, D3DFMT_A8, 1, to),
-        D3DFMT_A8B8G8R8 => rewrite_block(n, src, from, dst, D3DFMT_A8B8G8R8, 4, to),
-        D3DFMT_X8B8G8R8 => rewrite_block(n, src, from, dst, D3DFMT_X8B8G8R8, 4, to),
-        D3DFMT_L8 => rewrite_block(n, src, from, dst, D3DFMT_L8, 1, to),
-        D3DFMT_A8L8 => rewrite_block(n, src, from, dst, D3DFMT_A8L8, 2, to),
-        _ => to,
-    }
+    write_words(|k| words::le32(&src[from + k * 4..]), n, dst, format, to)
 }

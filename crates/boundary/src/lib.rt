@@ -2,20 +2,20 @@
 // which are zeros where it is refused.
 #![tactic(auto)]
 
-ghost use Rattle.std.specs.Prelude.{◌≡◌};
+ghost use Rattle.std.specs.Prelude.{◌≡◌, [], ◌∷◌, Ok, IfOk, IfErr};
 ghost use Rattle.planar_yuv.specs.Answers.{reply_of};
-ghost use Rattle.convert.specs.Fill.{reply_number};
+ghost use Rattle.convert.specs.Fill.{handed};
 ghost use Rattle.depth_texture.specs.Layouts.{answer_number, answer_layout};
 ghost use Rattle.boundary.specs.Calls.{region_of, planar_values, plane_values};
 
-use convert::FillReply;
+use convert::{FillPixel, NoFill};
 use convert_reply::ConvertRegion;
-use depth_texture::PlaneLayoutAnswer;
-use planar_yuv::PlanarYuvAnswer;
+use depth_texture::{PlaneLayout, PlaneLayoutRefusal};
+use planar_yuv::{NoPlanarLayout, PlanarYuvLayout};
 
 // ---- conversion
 
-// The region of a conversion, from its numbers.
+// The region of a conversion, from its numbers: the C interface hands them over one by one.
 pub fn region_of(
     src_x: u32,
     src_y: u32,
@@ -49,67 +49,96 @@ pub fn region_of(
 // ---- planar layouts
 
 // The values of an answer, and its number.
-pub fn put_planar(answer: PlanarYuvAnswer, layout: &mut [u64; 4]) -> u32
+pub fn put_planar(answer: Result<PlanarYuvLayout, NoPlanarLayout>, layout: &mut [u64; 4]) -> u32
     ensures reply { result ≡ (reply_of answer).number }
     ensures values { layout.new ≡ planar_values (reply_of answer) }
 {
-    match answer {
-        PlanarYuvAnswer::Layout(l) => {
-            *layout = [
+    let values = answer.map(
+        |l|
+            ensures { result ≡ planar_values (reply_of (Ok l)) }
+        {
+            [
                 l.pitch as u64,
                 l.luma_rows as u64,
                 l.chroma_rows as u64,
                 l.total_bytes as u64,
-            ];
-            0
-        }
-        PlanarYuvAnswer::Refused => {
-            *layout = [0, 0, 0, 0];
-            14
-        }
-    }
+            ]
+        },
+    );
+    put_values(values, layout)
 }
 
 // ---- fills
 
-// The number of a fill's reply.
-pub fn fill_number(reply: FillReply) -> u32
-    ensures { result ≡ reply_number reply }
+// The bytes and the length of a fill, and its number.
+pub fn put_fill(fill: Result<FillPixel, NoFill>, bytes: &mut [u8; 16], length: &mut u32) -> u32
+    ensures reply { result ≡ (handed fill).reply }
+    ensures values { bytes.new ≡ (handed fill).bytes }
+    ensures counted { length.new ≡ (handed fill).len }
 {
-    match reply {
-        FillReply::Filled => 0,
-        FillReply::NoFill => 5,
+    match fill {
+        Ok(pixel) => {
+            let texel = pixel.bytes;
+            *bytes = texel;
+            *length = pixel.len as u32;
+            0
+        }
+        Err(refusal) => {
+            *bytes = [0; 16];
+            *length = 0;
+            u32::from(refusal)
+        }
     }
 }
 
 // ---- depth
 
 // The values of an answer, and its number.
-pub fn put_planes(answer: PlaneLayoutAnswer, layout: &mut [u64; 4]) -> u32
+pub fn put_planes(answer: Result<PlaneLayout, PlaneLayoutRefusal>, layout: &mut [u64; 4]) -> u32
     ensures reply { result ≡ answer_number answer }
     ensures values { layout.new ≡ plane_values (answer_layout answer) }
 {
-    match answer {
-        PlaneLayoutAnswer::Layout(l) => {
-            *layout = [
+    let values = answer.map(
+        |l|
+            ensures { result ≡ plane_values l }
+        {
+            [
                 l.width as u64,
                 l.height as u64,
                 l.depth_pitch as u64,
                 l.stencil_pitch as u64,
-            ];
+            ]
+        },
+    );
+    put_values(values, layout)
+}
+
+// ---- replies
+
+// The number of a reply: 0 for acceptance, else the refusal's.
+pub fn reply_number<E: Into<u32>>(reply: Result<(), E>) -> u32
+    ensures accepted { IfOk reply (λ _. result ≡ 0) }
+    ensures refused { IfErr reply (λ e. E.converts e result) }
+{
+    match reply {
+        Ok(()) => 0,
+        Err(refusal) => refusal.into(),
+    }
+}
+
+// The four values of an answer, which are zeros where it is refused, and its number.
+pub fn put_values<E: Into<u32>>(answer: Result<[u64; 4], E>, values: &mut [u64; 4]) -> u32
+    ensures answered { IfOk answer (λ v. (values.new ≡ v) × (result ≡ 0)) }
+    ensures refused { IfErr answer (λ e. (values.new ≡ 0 ∷ 0 ∷ 0 ∷ 0 ∷ []) × E.converts e result) }
+{
+    match answer {
+        Ok(v) => {
+            *values = v;
             0
         }
-        PlaneLayoutAnswer::ZeroSize => {
-            *layout = [0, 0, 0, 0];
-            6
-        }
-        PlaneLayoutAnswer::NoPowerOfTwo => {
-            *layout = [0, 0, 0, 0];
-            7
-        }
-        PlaneLayoutAnswer::Over64Bits => {
-            *layout = [0, 0, 0, 0];
-            8
+        Err(refusal) => {
+            *values = [0; 4];
+            refusal.into()
         }
     }
 }

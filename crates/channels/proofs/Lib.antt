@@ -1,6 +1,4 @@
 -- Laws that other crates cite, and what the proofs of several functions use.
-pub mod Shifts
 pub mod NearestLaws
 pub mod ExactLaws
 pub mod ExpansionLaws
-pub mod TopBit

@@ -1,9 +1,12 @@
 -- The arms of the fill's `match`: what each one hands back is the defined fill, and a code of no arm has none.
 -- Assumes nothing.
-use mathlib.Core.Path.{◌≡◌, refl, sym, ap, ◌∙◌, subst}
+use mathlib.Core.Path.{◌≡◌, refl, sym, ap, ap₂, ◌∙◌, subst}
 use mathlib.Core.Bool.{Bool, true, false}
-use mathlib.Core.List.{List, [], ◌∷◌}
-use Prim.Native.Nat.{ℕ}
+use mathlib.Core.List.{List, [], ◌∷◌, ◌++◌}
+use lib.ListN.{replicate}
+use Prim.Native.Nat.{ℕ, zero, suc, ◌-◌, ◌/◌, ◌%◌, ◌^◌, ◌<◌}
+use native.Mathlib.Nat.{div-div-eq-div-mul, div-one, pow-suc}
+use native.Mathlib.Omega.{arith}
 use lib.Dec.{T}
 use lib.Ieee.Bits.{is_true}
 use borrow.Author.Tests.{ne_eqb}
@@ -12,33 +15,50 @@ use Rattle.words.specs.Tests.{pick}
 use Rattle.formats.specs.Classes.{listed}
 use Rattle.formats.specs.Table.{bytes_of}
 use Rattle.colours.specs.LaneCodes.{Codes, lane_code}
-use Rattle.convert.specs.Fill.{Fill, HandsBack, fill_formats, filled, refused, word_of, fill_of, reply_number}
-use Rattle.convert.specs.declared.FillPixel.{FillPixel}
+use Rattle.std.specs.Prelude.{Ok}
+use Rattle.std.specs.Int.{byte_at, bytes_low_first}
+use Rattle.words.specs.Little.{bytes}
+use Rattle.convert.specs.Fill.{fill_formats, filled, refused, word_of, fill_of, handed}
+use Rattle.convert.specs.declared.pixel.FillPixel.{FillPixel}
 use Rattle.formats.specs.Lanes.{Kind}
 
--- what the contract says of the pixel r
-abbrev pub Says : (color f : ℕ) → FillPixel → Type 0
-Says color f r = (r.bytes ≡ (fill_of color f).bytes) × ((r.len ≡ (fill_of color f).len) × (reply_number r.reply ≡ (fill_of color f).reply))
+-- ---- a word's bytes, as the library's methods list them
+low_first : (i k n m : ℕ) → m ≡ n / 256 ^ i → bytes_low_first i k n ≡ bytes k m
+low_first i zero n m e = refl
+low_first i (suc k) n m e = ap₂ (λ (x : ℕ) (y : List ℕ). x ∷ y) (this i e) (low_first (suc i) k n (m / 256) next)
+  where
+    this : (i : ℕ) → m ≡ n / 256 ^ i → byte_at i n ≡ m % 256
+    this zero e = ap (λ x. x % 256) (sym (e ∙ div-one n))
+    this (suc i) e = ap (λ x. x % 256) (sym e)
 
-says : (color f : ℕ) (x : Fill) (r : FillPixel) → x ≡ fill_of color f → HandsBack x r → Says color f r
-says color f x r e h = (h.bytes ∙ ap (λ y. y.bytes) e, (h.len ∙ ap (λ y. y.len) e, h.reply ∙ ap (λ y. y.reply) e))
+    next : m / 256 ≡ n / 256 ^ suc i
+    next = ap (λ x. x / 256) e ∙ div-div-eq-div-mul n (256 ^ i) 256 ∙ ap (λ x. n / x) (sym (pow-suc 256 i))
 
--- an arm for the code g, which the format is: n bytes of the word w
-pub arm : (color f g n w : ℕ) (r : FillPixel) → f ≡ g → T (listed g fill_formats) → bytes_of g ≡ n → word_of color g ≡ w → HandsBack (filled n w) r → Says color f r
+pub word_bytes : (k n : ℕ) → bytes_low_first 0 k n ≡ bytes k n
+word_bytes k n = low_first 0 k n n (sym (div-one n))
+
+-- one byte is its own list
+pub own_byte : (v : ℕ) (bs : List ℕ) → v < 256 → bs ≡ v ∷ [] → bs ≡ bytes_low_first 0 1 v
+own_byte v bs h e =
+    let low : v ≡ v % 256 = omega arith in
+    e ∙ ap (λ x. x ∷ []) low
+
+-- ---- an arm for the code g, which the format is: the n bytes bs of the word w
+pub arm : (color f g n w : ℕ) (p : FillPixel) (bs : List ℕ) → f ≡ g → T (listed g fill_formats) → bytes_of g ≡ n → word_of color g ≡ w
+    → p.bytes ≡ bs ++ replicate (16 - n) 0 → p.len ≡ n → bs ≡ bytes_low_first 0 n w → handed (Ok p) ≡ fill_of color f
 unfolding fill_of
-arm color f g n w r e t b o h =
-    says color f (filled n w) r
-    (sym
+arm color f g n w p bs e t b o h l m =
+    ap₂ (λ (x : List ℕ) (y : ℕ). record { bytes = x; len = y; reply = 0 }) (h ∙ ap (λ x. x ++ replicate (16 - n) 0) (m ∙ word_bytes n w)) l
+    ∙ sym
     (ap (fill_of color) e
     ∙ ap (λ (x : Bool). pick x (filled (bytes_of g) (word_of color g)) refused) (is_true (listed g fill_formats) t)
     ∙ ap (λ (x : ℕ). filled x (word_of color g)) b
-    ∙ ap (filled n) o))
-    h
+    ∙ ap (filled n) o)
 
 -- no arm
-pub no_arm : (color f : ℕ) (r : FillPixel) → listed f fill_formats ≡ false → HandsBack refused r → Says color f r
+pub no_arm : (color f : ℕ) → listed f fill_formats ≡ false → refused ≡ fill_of color f
 unfolding fill_of
-no_arm color f r e h = says color f refused r (sym (ap (λ (x : Bool). pick x (filled (bytes_of f) (word_of color f)) refused) e)) h
+no_arm color f e = sym (ap (λ (x : Bool). pick x (filled (bytes_of f) (word_of color f)) refused) e)
 
 -- ---- a code of no arm: none of the keys, which the `match` tests one after the other (the last first here)
 abbrev pub NoKey : (f : ℕ) → List ℕ → Type 0

@@ -1,6 +1,6 @@
 -- The bytes of a fill: a texel's word, whose parts hold each channel's code, as the lane table lists them.
 -- Assumes nothing.
-use Rattle.std.specs.Prelude.{◌≡◌, List, [], ◌∷◌, ◌++◌, ℕ, ◌-◌, replicate}
+use Rattle.std.specs.Prelude.{Result, Ok, Err, List, [], ◌∷◌, ◌++◌, ℕ, ◌-◌, replicate}
 use Rattle.words.specs.Little.{bytes}
 use Rattle.words.specs.Tests.{pick}
 use Rattle.formats.specs.Codes.{A8R8G8B8, X8R8G8B8, A8B8G8R8, X8B8G8R8, A2R10G10B10, A2B10G10R10, R5G6B5, A1R5G5B5, X1R5G5B5, A4R4G4B4, L8, A8, V8U8, Q8W8V8U8, V16U16, Q16W16V16U16, R32F, G32R32F, A32B32G32R32F, R16F, G16R16, A16B16G16R16, G16R16F, A16B16G16R16F}
@@ -9,9 +9,8 @@ use Rattle.formats.specs.Table.{parts_of, bytes_of}
 use Rattle.formats.specs.Classes.{listed}
 use Rattle.colours.specs.Color.{byte_of}
 use Rattle.colours.specs.LaneCodes.{lane_code}
-use Rattle.convert.specs.declared.FillReply.{FillReply}
-use Rattle.convert.specs.declared.FillReply.TheVariants.{Filled, NoFill}
-use Rattle.convert.specs.declared.FillPixel.{FillPixel}
+use Rattle.convert.specs.declared.pixel.FillPixel.{FillPixel}
+use Rattle.convert.specs.declared.pixel.NoFill.{NoFill}
 
 -- the texel of a colour in the format f, as a word
 unfoldable pub word_of : (color f : ℕ) → ℕ
@@ -23,12 +22,7 @@ fill_formats =
     A8R8G8B8 ∷ X8R8G8B8 ∷ A8B8G8R8 ∷ X8B8G8R8 ∷ A2R10G10B10 ∷ A2B10G10R10 ∷ R5G6B5 ∷ A1R5G5B5 ∷ X1R5G5B5 ∷ A4R4G4B4 ∷ L8 ∷ A8
     ∷ V8U8 ∷ Q8W8V8U8 ∷ V16U16 ∷ Q16W16V16U16 ∷ R32F ∷ G32R32F ∷ A32B32G32R32F ∷ R16F ∷ G16R16 ∷ A16B16G16R16 ∷ G16R16F ∷ A16B16G16R16F ∷ []
 
--- document 01's number of each reply
-abbrev pub reply_number : FillReply → ℕ
-reply_number Filled = 0
-reply_number NoFill = 5
-
--- what a fill hands back: sixteen bytes, how many of them count, and the number of the reply
+-- what a fill hands back: sixteen bytes, how many of them count, and document 01's number of the reply
 pub record Fill : Type 0 where
   pub bytes : List ℕ
   pub len : ℕ
@@ -36,18 +30,17 @@ pub record Fill : Type 0 where
 
 -- a word of n bytes, and zeros up to sixteen
 abbrev pub filled : (n word : ℕ) → Fill
-filled n word = record { bytes = bytes n word ++ replicate (16 - n) 0; len = n; reply = reply_number Filled }
+filled n word = record { bytes = bytes n word ++ replicate (16 - n) 0; len = n; reply = 0 }
 
 -- refused: sixteen zeros, of which none counts
 abbrev pub refused : Fill
-refused = record { bytes = replicate 16 0; len = 0; reply = reply_number NoFill }
+refused = record { bytes = replicate 16 0; len = 0; reply = 5 }
 
 -- THE FILL of a colour in the format f
 unfoldable pub fill_of : (color f : ℕ) → Fill
 fill_of color f = pick (listed f fill_formats) (filled (bytes_of f) (word_of color f)) refused
 
--- the pixel r hands back what is said
-pub record HandsBack (f : Fill) (r : FillPixel) : Type 0 where
-  pub bytes : r.bytes ≡ f.bytes
-  pub len : r.len ≡ f.len
-  pub reply : reply_number r.reply ≡ f.reply
+-- what the reply hands back: a pixel's bytes and length, or what is refused
+abbrev pub handed : Result FillPixel NoFill → Fill
+handed (Ok p) = record { bytes = p.bytes; len = p.len; reply = 0 }
+handed (Err _) = refused

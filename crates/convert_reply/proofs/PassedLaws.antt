@@ -1,5 +1,5 @@
 -- Where a reply does not look at the set. Assumes nothing.
-use Rattle.std.specs.Prelude.{◌≡◌, false, not, ℕ}
+use Rattle.std.specs.Prelude.{◌≡◌, false, not, ℕ, Ok, Err}
 use Rattle.std.proofs.Common.{sym, ◌∙◌}
 use Rattle.words.specs.Tests.{pick}
 use Rattle.formats.specs.Classes.{is_yuv}
@@ -7,14 +7,14 @@ use Rattle.yuv_sets.specs.declared.YuvSet.{YuvSet}
 use Rattle.yuv_sets.specs.Sets.{bt601}
 use Rattle.yuv_sets.specs.Legal.{bt601_legal}
 use Rattle.convert_reply.specs.declared.ConvertRegion.{ConvertRegion}
-use Rattle.convert_reply.specs.declared.ConvertReply.TheVariants.{Accepted, Unsupported, PlanarShape, SourceOutside, DestinationOutside}
+use Rattle.convert_reply.specs.declared.ConvertRefusal.TheVariants.{Unsupported, PlanarShape, SourceOutside, DestinationOutside}
 use Rattle.convert_reply.specs.Replies.{can_convert, bad_planar_shape, is_empty, source_inside, destination_inside, reply_to}
 use Rattle.convert_reply.specs.Passed.{legal_fits, other_fits, as_before}
 
 -- so is the reply by bt601
 pub bt601_reply : (s d : ℕ) (r : ConvertRegion) (n m : ℕ)
     → reply_to bt601 s d r n m
-    ≡ pick (not (can_convert s d)) Unsupported (pick (bad_planar_shape s r) PlanarShape (pick (is_empty r) Accepted (pick (not (source_inside n s r)) SourceOutside (pick (not (destination_inside m d r)) DestinationOutside Accepted))))
+    ≡ pick (not (can_convert s d)) (Err Unsupported) (pick (bad_planar_shape s r) (Err PlanarShape) (pick (is_empty r) (Ok tt) (pick (not (source_inside n s r)) (Err SourceOutside) (pick (not (destination_inside m d r)) (Err DestinationOutside) (Ok tt)))))
 bt601_reply s d r n m = as_before bt601 s d r n m (legal_fits bt601 s bt601_legal)
 
 -- of a source that is no YUV the set is not looked at

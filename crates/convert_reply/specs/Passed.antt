@@ -1,5 +1,5 @@
 -- What an accepted conversion has passed, and what a reply's number tells of it. Assumes nothing.
-use Rattle.std.specs.Prelude.{◌≡◌, refl, Bool, true, false, not, ◌&&◌, ◌||◌, List, ℕ, ◌<◌, eqb}
+use Rattle.std.specs.Prelude.{◌≡◌, refl, Bool, true, false, not, ◌&&◌, ◌||◌, List, ℕ, ◌<◌, eqb, Result, Ok, Err}
 use Rattle.std.proofs.Common.{sym, ap, ◌∙◌, zero-le, arith, eqb-true, eq-eqb}
 use Rattle.std.proofs.lemmas.Bool.{false≢true}
 use Rattle.std.proofs.Math.Arith.{lt_of_le-ne}
@@ -9,8 +9,9 @@ use Rattle.formats.specs.Classes.{is_convertible_rgb, is_packed_yuv, is_planar_y
 use Rattle.yuv_sets.specs.declared.YuvSet.{YuvSet}
 use Rattle.yuv_sets.specs.Sets.{is_legal}
 use Rattle.convert_reply.specs.declared.ConvertRegion.{ConvertRegion}
-use Rattle.convert_reply.specs.declared.ConvertReply.{ConvertReply}
-use Rattle.convert_reply.specs.declared.ConvertReply.TheVariants.{Accepted, Unsupported, PlanarShape, SourceOutside, DestinationOutside, IllegalSet}
+use Rattle.convert_reply.specs.declared.ConvertRefusal.{ConvertRefusal}
+use Rattle.convert_reply.specs.declared.ConvertRefusal.TheVariants.{Unsupported, PlanarShape, SourceOutside, DestinationOutside, IllegalSet}
+use Rattle.formats.specs.Formats.{is_source}
 use Rattle.places.specs.Places.{is_picture}
 use Rattle.convert_reply.specs.Replies.{can_convert, can_convert_update, bad_planar_shape, illegal_set, is_empty, source_inside, destination_inside, reply_to, reply_number, if_accepted}
 
@@ -40,6 +41,27 @@ convert_picture s d h = go (is_convertible_rgb s) (is_packed_yuv s) (is_converti
     go false false b true false false h = h
     go false false b false false false h = h
 
+-- so it has a type, as its destination has
+pub convert_source : (s d : ℕ) → can_convert s d ≡ true → is_source s ≡ false → ⊥
+unfolding can_convert can_convert_update is_lane_source
+convert_source s d h n = go (is_convertible_rgb s) (is_packed_yuv s) (is_convertible_rgb d) (eqb d A8R8G8B8) (is_argb_source s) (is_planar_yuv s) h n
+  where
+    go : (a k b e w p : Bool) → (((a || k) && b) || (e && w) || (p && b)) ≡ true → ((a || w) || (k || p)) ≡ false → ⊥
+    go true k b e w p h n = false≢true (sym n)
+    go false k b e true p h n = false≢true (sym n)
+    go false true b e false p h n = false≢true (sym n)
+    go false false b e false true h n = false≢true (sym n)
+    go false false b true false false h n = false≢true h
+    go false false b false false false h n = false≢true h
+
+pub convert_target : (s d : ℕ) → can_convert s d ≡ true → is_convertible_rgb d ≡ false → ⊥
+convert_target s d h n = false≢true (sym n ∙ convert_rgb s d h)
+
+-- a pair that does not convert is refused first
+pub no_pair : (numbers : YuvSet) (s d : ℕ) (r : ConvertRegion) (n m : ℕ) → can_convert s d ≡ false → Err Unsupported ≡ reply_to numbers s d r n m
+unfolding reply_to
+no_pair numbers s d r n m h = rw h refl
+
 -- so is an RGB destination
 pub rgb_picture : (d : ℕ) → is_convertible_rgb d ≡ true → is_picture d ≡ true
 unfolding is_picture is_lane_source
@@ -53,7 +75,7 @@ pub record Passed (numbers : YuvSet) (s d : ℕ) (r : ConvertRegion) (n m : ℕ)
   pub source : source_inside n s r ≡ true
   pub destination : destination_inside m d r ≡ true
 
-pub passed : (numbers : YuvSet) (s d : ℕ) (r : ConvertRegion) (n m : ℕ) → is_empty r ≡ false → reply_to numbers s d r n m ≡ Accepted → Passed numbers s d r n m
+pub passed : (numbers : YuvSet) (s d : ℕ) (r : ConvertRegion) (n m : ℕ) → is_empty r ≡ false → reply_to numbers s d r n m ≡ Ok tt → Passed numbers s d r n m
 unfolding reply_to
 passed numbers s d r n m ne h = go (can_convert s d) (bad_planar_shape s r) (illegal_set s numbers) (is_empty r) (source_inside n s r) (destination_inside m d r) refl refl refl ne refl refl h
   where
@@ -61,7 +83,7 @@ passed numbers s d r n m ne h = go (can_convert s d) (bad_planar_shape s r) (ill
     clash a b e l = absurd (omega arith)
 
     go : (c p w e si di : Bool) → can_convert s d ≡ c → bad_planar_shape s r ≡ p → illegal_set s numbers ≡ w → e ≡ false → source_inside n s r ≡ si → destination_inside m d r ≡ di
-        → pick (not c) Unsupported (pick p PlanarShape (pick w IllegalSet (pick e Accepted (pick (not si) SourceOutside (pick (not di) DestinationOutside Accepted))))) ≡ Accepted → Passed numbers s d r n m
+        → ◌≡◌ {A = Result (Unit {0}) ConvertRefusal} (pick (not c) (Err Unsupported) (pick p (Err PlanarShape) (pick w (Err IllegalSet) (pick e (Ok tt) (pick (not si) (Err SourceOutside) (pick (not di) (Err DestinationOutside) (Ok tt))))))) (Ok tt) → Passed numbers s d r n m
     go true false false false true true a b v f g i k = record { pair = a; shape = b; set = v; source = g; destination = i }
     go true false false false true false a b v f g i k = let x : ◌≡◌ {A = ℕ} 0 1 = cc in clash 0 1 x (omega arith)
     go true false false false false di a b v f g i k = let x : ◌≡◌ {A = ℕ} 0 1 = cc in clash 0 1 x (omega arith)
@@ -87,7 +109,7 @@ other_fits numbers s h = rw h refl
 -- the reply is document 01's, by its five checks
 pub as_before : (numbers : YuvSet) (s d : ℕ) (r : ConvertRegion) (n m : ℕ) → illegal_set s numbers ≡ false
     → reply_to numbers s d r n m
-    ≡ pick (not (can_convert s d)) Unsupported (pick (bad_planar_shape s r) PlanarShape (pick (is_empty r) Accepted (pick (not (source_inside n s r)) SourceOutside (pick (not (destination_inside m d r)) DestinationOutside Accepted))))
+    ≡ pick (not (can_convert s d)) (Err Unsupported) (pick (bad_planar_shape s r) (Err PlanarShape) (pick (is_empty r) (Ok tt) (pick (not (source_inside n s r)) (Err SourceOutside) (pick (not (destination_inside m d r)) (Err DestinationOutside) (Ok tt)))))
 unfolding reply_to
 as_before numbers s d r n m h = rw h refl
 
@@ -129,18 +151,14 @@ sizes r h = go (eqb r.width 0) (eqb r.height 0) (eqb r.depth 0) refl refl refl h
     go true b c e f g k = absurd (false≢true (sym k))
 
 -- ---- a reply by its number
-pub is_accepted : (a : ConvertReply) → eqb (reply_number a) 0 ≡ true → a ≡ Accepted
-is_accepted Accepted h = refl
-is_accepted Unsupported h = absurd (false≢true h)
-is_accepted PlanarShape h = absurd (false≢true h)
-is_accepted SourceOutside h = absurd (false≢true h)
-is_accepted DestinationOutside h = absurd (false≢true h)
-is_accepted IllegalSet h = absurd (false≢true h)
+pub is_accepted : (a : Result (Unit {0}) ConvertRefusal) → eqb (reply_number a) 0 ≡ true → a ≡ Ok tt
+is_accepted (Ok _) h = refl
+is_accepted (Err Unsupported) h = absurd (false≢true h)
+is_accepted (Err PlanarShape) h = absurd (false≢true h)
+is_accepted (Err SourceOutside) h = absurd (false≢true h)
+is_accepted (Err DestinationOutside) h = absurd (false≢true h)
+is_accepted (Err IllegalSet) h = absurd (false≢true h)
 
-pub is_refused : (a : ConvertReply) (x y : List ℕ) → eqb (reply_number a) 0 ≡ false → if_accepted a x y ≡ y
-is_refused Accepted x y h = absurd (false≢true (sym h))
-is_refused Unsupported x y h = refl
-is_refused PlanarShape x y h = refl
-is_refused SourceOutside x y h = refl
-is_refused DestinationOutside x y h = refl
-is_refused IllegalSet x y h = refl
+pub is_refused : (a : Result (Unit {0}) ConvertRefusal) (x y : List ℕ) → eqb (reply_number a) 0 ≡ false → if_accepted a x y ≡ y
+is_refused (Ok _) x y h = absurd (false≢true (sym h))
+is_refused (Err _) x y h = refl

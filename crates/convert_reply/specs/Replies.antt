@@ -1,14 +1,16 @@
 -- Which pairs of formats convert, and the reply to a region.
 -- Assumes nothing.
-use Rattle.std.specs.Prelude.{Bool, not, ◌&&◌, ◌||◌, List, [], ◌∷◌, ℕ, ◌%◌, eqb, length}
+use Rattle.std.specs.Prelude.{◌≡◌, Bool, true, false, not, ◌&&◌, ◌||◌, List, [], ◌∷◌, ℕ, ◌%◌, eqb, length, Option, Some, None, Result, Ok, Err}
 use Rattle.words.specs.Tests.{pick}
 use Rattle.formats.specs.Codes.{A8R8G8B8}
 use Rattle.formats.specs.Classes.{is_convertible_rgb, is_packed_yuv, is_planar_yuv, is_yuv, is_argb_source}
+use Rattle.formats.specs.Formats.{rgb_code, source_code}
 use Rattle.yuv_sets.specs.declared.YuvSet.{YuvSet}
 use Rattle.yuv_sets.specs.Sets.{is_legal, bt601}
 use Rattle.convert_reply.specs.declared.ConvertRegion.{ConvertRegion}
-use Rattle.convert_reply.specs.declared.ConvertReply.{ConvertReply}
-use Rattle.convert_reply.specs.declared.ConvertReply.TheVariants.{Accepted, Unsupported, PlanarShape, SourceOutside, DestinationOutside, IllegalSet}
+use Rattle.convert_reply.specs.declared.Pair.{Pair}
+use Rattle.convert_reply.specs.declared.ConvertRefusal.{ConvertRefusal}
+use Rattle.convert_reply.specs.declared.ConvertRefusal.TheVariants.{Unsupported, PlanarShape, SourceOutside, DestinationOutside, IllegalSet}
 use Rattle.places.specs.Places.{inside_all}
 
 -- ---- which pairs of formats convert
@@ -46,48 +48,64 @@ destination_inside len f r = inside_all len f r.dst_pitch r.dst_slice_pitch r.ds
 -- a test and the reply where it is met
 pub record Check : Type 0 where
   pub met : Bool
-  pub reply : ConvertReply
+  pub reply : Result (Unit {0}) ConvertRefusal
 
 -- the reply of the first check that is met
-abbrev pub first_met : List Check → ConvertReply → ConvertReply
+abbrev pub first_met : List Check → Result (Unit {0}) ConvertRefusal → Result (Unit {0}) ConvertRefusal
 first_met [] otherwise = otherwise
 first_met (c ∷ cs) otherwise = pick c.met c.reply (first_met cs otherwise)
 
 -- the checks, in order; an empty region is accepted
-unfoldable pub reply_to : YuvSet → (source destination : ℕ) → ConvertRegion → (source_length destination_length : ℕ) → ConvertReply
+unfoldable pub reply_to : YuvSet → (source destination : ℕ) → ConvertRegion → (source_length destination_length : ℕ) → Result (Unit {0}) ConvertRefusal
 reply_to numbers s d r n m =
     first_met
-    (record { met = not (can_convert s d); reply = Unsupported }
-    ∷ record { met = bad_planar_shape s r; reply = PlanarShape }
-    ∷ record { met = illegal_set s numbers; reply = IllegalSet }
-    ∷ record { met = is_empty r; reply = Accepted }
-    ∷ record { met = not (source_inside n s r); reply = SourceOutside }
-    ∷ record { met = not (destination_inside m d r); reply = DestinationOutside }
+    (record { met = not (can_convert s d); reply = Err Unsupported }
+    ∷ record { met = bad_planar_shape s r; reply = Err PlanarShape }
+    ∷ record { met = illegal_set s numbers; reply = Err IllegalSet }
+    ∷ record { met = is_empty r; reply = Ok tt }
+    ∷ record { met = not (source_inside n s r); reply = Err SourceOutside }
+    ∷ record { met = not (destination_inside m d r); reply = Err DestinationOutside }
     ∷ [])
-    Accepted
+    (Ok tt)
 
 -- the reply to two buffers
-abbrev pub reply_with : YuvSet → (src dst : List ℕ) (source destination : ℕ) → ConvertRegion → ConvertReply
+abbrev pub reply_with : YuvSet → (src dst : List ℕ) (source destination : ℕ) → ConvertRegion → Result (Unit {0}) ConvertRefusal
 reply_with numbers src dst s d r = reply_to numbers s d r (length src) (length dst)
 
 -- the reply by document 01's numbers
-abbrev pub convert_reply : (src dst : List ℕ) (source destination : ℕ) → ConvertRegion → ConvertReply
+abbrev pub convert_reply : (src dst : List ℕ) (source destination : ℕ) → ConvertRegion → Result (Unit {0}) ConvertRefusal
 convert_reply src dst s d r = reply_with bt601 src dst s d r
 
--- the number of a reply, in document 01 and for a set in document 02
-abbrev pub reply_number : ConvertReply → ℕ
-reply_number Accepted = 0
-reply_number Unsupported = 1
-reply_number PlanarShape = 2
-reply_number SourceOutside = 3
-reply_number DestinationOutside = 4
-reply_number IllegalSet = 15
+-- the number of a refusal, in document 01 and for a set in document 02
+abbrev pub refusal_number : ConvertRefusal → ℕ
+refusal_number Unsupported = 1
+refusal_number PlanarShape = 2
+refusal_number SourceOutside = 3
+refusal_number DestinationOutside = 4
+refusal_number IllegalSet = 15
+
+-- the number of a reply: 0, or its refusal's
+abbrev pub reply_number : Result (Unit {0}) ConvertRefusal → ℕ
+reply_number (Ok _) = 0
+reply_number (Err r) = refusal_number r
 
 -- the first of two where the reply is no refusal, and else the second
-abbrev pub if_accepted {ℓ} : {A : Type ℓ} → ConvertReply → A → A → A
-if_accepted Accepted a b = a
-if_accepted Unsupported a b = b
-if_accepted PlanarShape a b = b
-if_accepted SourceOutside a b = b
-if_accepted DestinationOutside a b = b
-if_accepted IllegalSet a b = b
+abbrev pub if_accepted {ℓ} : {A : Type ℓ} → Result (Unit {0}) ConvertRefusal → A → A → A
+if_accepted (Ok _) a b = a
+if_accepted (Err _) a b = b
+
+-- ---- pairs of formats
+-- the pair is that of two codes
+pub record Codes (p : Pair) (s d : ℕ) : Type 0 where
+  pub source : source_code p.source ≡ s
+  pub target : rgb_code p.target ≡ d
+
+-- a pair was found for two codes, or they do not convert
+abbrev pub FoundPair : (s d : ℕ) → Option Pair → Type 0
+FoundPair s d (Some p) = Codes p s d × (can_convert s d ≡ true)
+FoundPair s d None = can_convert s d ≡ false
+
+-- a reply without the value that comes with acceptance
+abbrev pub without_value : {A : Type 0} → Result A ConvertRefusal → Result (Unit {0}) ConvertRefusal
+without_value (Ok _) = Ok tt
+without_value (Err e) = Err e

@@ -4,13 +4,11 @@
 // Ported from pixel_convert.rs of athei/mtld3d (an altered version, see NOTICE).
 #![tactic(auto)]
 
-ghost use Rattle.std.specs.Prelude.{◌≡◌, true, false, ◌&&◌, eqb};
-ghost use Rattle.formats.specs.Codes.{A8R8G8B8};
-ghost use Rattle.formats.specs.Classes.{is_convertible_rgb, is_planar_yuv, is_yuv, is_argb_source};
-ghost use Rattle.places.specs.Places.{is_picture};
-ghost use Rattle.convert_reply.specs.Replies.{can_convert_update, can_convert, bad_planar_shape, illegal_set, is_empty, source_inside, destination_inside, reply_to, reply_number};
+ghost use Rattle.std.specs.Prelude.{◌≡◌, true, false, IfOk};
+ghost use Rattle.formats.specs.Formats.{rgb_code, source_code};
+ghost use Rattle.convert_reply.specs.Replies.{can_convert_update, can_convert, bad_planar_shape, illegal_set, is_empty, source_inside, destination_inside, reply_to, refusal_number, without_value, Codes, FoundPair};
 
-use formats::D3DFMT_A8R8G8B8;
+use formats::{D3DFMT_A8R8G8B8, LaneSource, RgbFormat, SourceFormat};
 use yuv_sets::YuvSet;
 
 // One conversion: the shared extent and both origins in texels, both layouts in bytes. `depth` counts the slices, which lie a
@@ -30,10 +28,9 @@ pub struct ConvertRegion {
     pub depth: usize,
 }
 
-// What a conversion answers; `reply_number` of specs/ has the numbers: 0 to 4 in this order, and 15.
-#[derive(Clone, Copy)]
-pub enum ConvertReply {
-    Accepted,
+// Why a conversion is refused; `refusal_number` of specs/ has the numbers: 1 to 4 in this order, and 15.
+#[derive(Clone, Copy, PartialEq, Eq)]
+pub enum ConvertRefusal {
     Unsupported,
     PlanarShape,
     SourceOutside,
@@ -41,116 +38,69 @@ pub enum ConvertReply {
     IllegalSet,
 }
 
-impl ConvertReply {
-    // The number of the reply.
-    pub fn number(self) -> u32
-        ensures { result ≡ reply_number self }
-    {
-        match self {
-            ConvertReply::Accepted => 0,
-            ConvertReply::Unsupported => 1,
-            ConvertReply::PlanarShape => 2,
-            ConvertReply::SourceOutside => 3,
-            ConvertReply::DestinationOutside => 4,
-            ConvertReply::IllegalSet => 15,
-        }
-    }
+impl From<ConvertRefusal> for u32 {
+    ghost from_gives = { λ r n. n ≡ refusal_number r };
 
-    // Whether the reply is no refusal.
-    pub fn is_accepted(self) -> bool
-        ensures { result ≡ eqb (reply_number self) 0 }
-    {
-        self.number() == 0
+    fn from(refusal: ConvertRefusal) -> u32 {
+        match refusal {
+            ConvertRefusal::Unsupported => 1,
+            ConvertRefusal::PlanarShape => 2,
+            ConvertRefusal::SourceOutside => 3,
+            ConvertRefusal::DestinationOutside => 4,
+            ConvertRefusal::IllegalSet => 15,
+        }
     }
 }
 
+// ---- codes, as the C interface hands them over; `pair_of` makes types of them
+
 // Whether UpdateSurface and UpdateTexture convert this source format into this destination format.
+#[tactic(auto, unfolding(crate::specs::Replies::can_convert_update))]
 pub fn can_convert_update(src_format: u32, dst_format: u32) -> bool
     ensures { result ≡ can_convert_update src_format dst_format }
 {
-    if !formats::is_convertible_rgb(dst_format) {
-        return false;
-    }
-    if formats::is_convertible_rgb(src_format) {
-        return true;
-    }
-    formats::is_packed_yuv(src_format)
-}
-
-fn is_argb_pair(src_format: u32, dst_format: u32) -> bool
-    ensures { result ≡ (eqb dst_format A8R8G8B8 && is_argb_source src_format) }
-{
-    if dst_format == D3DFMT_A8R8G8B8 {
-        return formats::is_argb_source(src_format);
-    }
-    false
-}
-
-fn is_planar_pair(src_format: u32, dst_format: u32) -> bool
-    ensures { result ≡ (is_planar_yuv src_format && is_convertible_rgb dst_format) }
-{
-    if formats::is_planar_yuv(src_format) {
-        return formats::is_convertible_rgb(dst_format);
-    }
-    false
+    (formats::is_convertible_rgb(src_format) || formats::is_packed_yuv(src_format))
+        && formats::is_convertible_rgb(dst_format)
 }
 
 // Whether a conversion takes this source format into this destination format.
+#[tactic(auto, unfolding(crate::specs::Replies::can_convert))]
 pub fn can_convert(src_format: u32, dst_format: u32) -> bool
     ensures { result ≡ can_convert src_format dst_format }
 {
-    if can_convert_update(src_format, dst_format) {
-        return true;
-    }
-    if is_argb_pair(src_format, dst_format) {
-        return true;
-    }
-    is_planar_pair(src_format, dst_format)
+    can_convert_update(src_format, dst_format)
+        || (dst_format == D3DFMT_A8R8G8B8 && formats::is_argb_source(src_format))
+        || (formats::is_planar_yuv(src_format) && formats::is_convertible_rgb(dst_format))
 }
 
 // Whether a planar source has more than one slice, no pitch, or a slice that is no whole number of rows.
-fn bad_planar_shape(src_format: u32, region: ConvertRegion) -> bool
-    ensures { result ≡ bad_planar_shape src_format region }
+#[tactic(auto, unfolding(crate::specs::Replies::bad_planar_shape))]
+fn bad_planar_shape(source: SourceFormat, region: ConvertRegion) -> bool
+    ensures { result ≡ bad_planar_shape (source_code source) region }
 {
-    if !formats::is_planar_yuv(src_format) {
-        return false;
-    }
-    if region.depth != 1 {
-        return true;
-    }
-    if region.src_pitch == 0 {
-        return true;
-    }
-    region.src_slice_pitch % region.src_pitch != 0
-}
-
-fn is_yuv(d3d_format: u32) -> bool
-    ensures { result ≡ is_yuv d3d_format }
-{
-    if formats::is_packed_yuv(d3d_format) {
-        return true;
-    }
-    formats::is_planar_yuv(d3d_format)
+    source.is_planar()
+        && (region.depth != 1
+            || region.src_pitch == 0
+            || region.src_slice_pitch % region.src_pitch != 0)
 }
 
 // Whether a YUV source comes with a set that is not legal.
-fn illegal_set(src_format: u32, numbers: YuvSet) -> bool
-    ensures { result ≡ illegal_set src_format numbers }
+#[tactic(auto, unfolding(crate::specs::Replies::illegal_set))]
+fn illegal_set(source: SourceFormat, numbers: YuvSet) -> bool
+    ensures { result ≡ illegal_set (source_code source) numbers }
 {
-    if !is_yuv(src_format) {
-        return false;
-    }
-    !yuv_sets::is_legal(numbers)
+    source.is_yuv() && !yuv_sets::is_legal(numbers)
 }
 
 // Whether every source texel of a region that is not empty lies within len bytes.
-fn source_inside(len: usize, src_format: u32, region: ConvertRegion) -> bool
-    requires { (is_picture src_format ≡ true) × (is_empty region ≡ false) }
-    ensures { result ≡ source_inside len src_format region }
+#[tactic(auto, using(crate::specs::Passed::sizes), unfolding(crate::specs::Replies::source_inside))]
+fn source_inside(len: usize, source: SourceFormat, region: ConvertRegion) -> bool
+    requires { is_empty region ≡ false }
+    ensures { result ≡ source_inside len (source_code source) region }
 {
     places::inside(
         len,
-        src_format,
+        source,
         region.src_pitch,
         region.src_slice_pitch,
         region.src_x,
@@ -161,14 +111,15 @@ fn source_inside(len: usize, src_format: u32, region: ConvertRegion) -> bool
     )
 }
 
-// The same of the destination.
-fn destination_inside(len: usize, dst_format: u32, region: ConvertRegion) -> bool
-    requires { (is_picture dst_format ≡ true) × (is_empty region ≡ false) }
-    ensures { result ≡ destination_inside len dst_format region }
+// The same of the destination: the two read other fields of the region, and one function of both would take a flag and both branches.
+#[tactic(auto, using(crate::specs::Passed::sizes), unfolding(crate::specs::Replies::destination_inside))]
+fn destination_inside(len: usize, target: RgbFormat, region: ConvertRegion) -> bool
+    requires { is_empty region ≡ false }
+    ensures { result ≡ destination_inside len (rgb_code target) region }
 {
     places::inside(
         len,
-        dst_format,
+        SourceFormat::Lanes(LaneSource::Rgb(target)),
         region.dst_pitch,
         region.dst_slice_pitch,
         region.dst_x,
@@ -180,19 +131,65 @@ fn destination_inside(len: usize, dst_format: u32, region: ConvertRegion) -> boo
 }
 
 // Whether a region has no texel.
+#[tactic(auto, unfolding(crate::specs::Replies::is_empty))]
 pub fn is_empty(region: ConvertRegion) -> bool
     ensures { result ≡ is_empty region }
 {
-    if region.width == 0 {
-        return true;
-    }
-    if region.height == 0 {
-        return true;
-    }
-    region.depth == 0
+    region.width == 0 || region.height == 0 || region.depth == 0
 }
 
-// The reply to a conversion by a set of numbers, from the lengths of its buffers: the checks in their order.
+// The formats of a pair that converts.
+#[derive(Clone, Copy)]
+pub struct Pair {
+    pub source: SourceFormat,
+    pub target: RgbFormat,
+}
+
+// The pair of two codes, if it converts.
+#[tactic(auto, using(crate::specs::Passed::convert_source, crate::specs::Passed::convert_target))]
+fn pair_of(src_format: u32, dst_format: u32) -> Option<Pair>
+    ensures { FoundPair src_format dst_format result }
+{
+    if !can_convert(src_format, dst_format) {
+        return None;
+    }
+    let source = SourceFormat::from_d3d(src_format)?;
+    let target = RgbFormat::from_d3d(dst_format)?;
+    Some(Pair { source, target })
+}
+
+// Whether a conversion of a pair is accepted: the checks behind the first, in their order.
+#[tactic(auto, unfolding(crate::specs::Replies::reply_to))]
+fn check_pair(
+    src_len: usize,
+    dst_len: usize,
+    pair: Pair,
+    region: ConvertRegion,
+    numbers: YuvSet,
+) -> Result<(), ConvertRefusal>
+    requires { can_convert (source_code pair.source) (rgb_code pair.target) ≡ true }
+    ensures { result ≡ reply_to numbers (source_code pair.source) (rgb_code pair.target) region src_len dst_len }
+{
+    if bad_planar_shape(pair.source, region) {
+        return Err(ConvertRefusal::PlanarShape);
+    }
+    if illegal_set(pair.source, numbers) {
+        return Err(ConvertRefusal::IllegalSet);
+    }
+    if is_empty(region) {
+        return Ok(());
+    }
+    if !source_inside(src_len, pair.source, region) {
+        return Err(ConvertRefusal::SourceOutside);
+    }
+    if !destination_inside(dst_len, pair.target, region) {
+        return Err(ConvertRefusal::DestinationOutside);
+    }
+    Ok(())
+}
+
+// The formats of a conversion by a set of numbers, or why it is refused, from the lengths of its buffers: the checks in their order.
+#[tactic(auto, using(crate::specs::Passed::no_pair))]
 pub fn check(
     src_len: usize,
     src_format: u32,
@@ -200,26 +197,13 @@ pub fn check(
     dst_format: u32,
     region: ConvertRegion,
     numbers: YuvSet,
-) -> ConvertReply
-    ensures { result ≡ reply_to numbers src_format dst_format region src_len dst_len }
+) -> Result<Pair, ConvertRefusal>
+    ensures reply { without_value result ≡ reply_to numbers src_format dst_format region src_len dst_len }
+    ensures pair { IfOk result (λ p. Codes p src_format dst_format) }
 {
-    if !can_convert(src_format, dst_format) {
-        return ConvertReply::Unsupported;
-    }
-    if bad_planar_shape(src_format, region) {
-        return ConvertReply::PlanarShape;
-    }
-    if illegal_set(src_format, numbers) {
-        return ConvertReply::IllegalSet;
-    }
-    if is_empty(region) {
-        return ConvertReply::Accepted;
-    }
-    if !source_inside(src_len, src_format, region) {
-        return ConvertReply::SourceOutside;
-    }
-    if !destination_inside(dst_len, dst_format, region) {
-        return ConvertReply::DestinationOutside;
-    }
-    ConvertReply::Accepted
+    let Some(pair) = pair_of(src_format, dst_format) else {
+        return Err(ConvertRefusal::Unsupported);
+    };
+    check_pair(src_len, dst_len, pair, region, numbers)?;
+    Ok(pair)
 }

@@ -1,11 +1,9 @@
--- What unpacking and packing owe, where they are refused and where they are accepted. Assumes nothing.
+-- What unpacking and packing owe where they are accepted. Assumes nothing.
 use mathlib.Core.Path.{◌≡◌, refl, sym, ap, ap₂, ◌∙◌, subst}
 use mathlib.Core.Bool.{Bool, true, false}
 use mathlib.Core.List.{List}
 use Prim.Native.Nat.{ℕ, ◌<◌}
-use native.Mathlib.Omega.{arith}
 use lib.Dec.{eqb, lit<}
-use borrow.Author.Tests.{eqb-true, eqb-false}
 use lib.ListN.{length, get_or}
 use Rattle.words.specs.Little.{small_list}
 use Rattle.words.specs.Tests.{pick}
@@ -19,7 +17,7 @@ use Rattle.depth_texture.specs.Refusals.{accepts}
 use Rattle.depth_pixels.specs.PixelBytes.{stencil_at}
 use Rattle.depth_texture.specs.Planes.{depth_plane, stencil_plane, packed_pixels, if_accepted, unpacked_depth, unpacked_stencil, packed_buffer}
 use Rattle.depth_texture.specs.Promises.{first_refusal, SamePixels, Restores, SameElsewhere, PlanesKept, NearestCodes}
-use Rattle.depth_texture.proofs.RoundTrip.{unpacked_accepted, unpacked_refused, packed_accepted, packed_refused, round_trip, nearest_packed, planes_kept, packed_kept}
+use Rattle.depth_texture.proofs.RoundTrip.{unpacked_accepted, packed_accepted, round_trip, nearest_packed, planes_kept, packed_kept}
 
 -- a call that the tests found acceptable, for the format that they found
 pub accepted_as : (d : PackedDepth) (f : ℕ) (l : PlaneLayout) (packed pitch depth stencil : ℕ) → (format_code d ≡ f) × (refusal_of f l packed pitch depth stencil ≡ 0)
@@ -36,41 +34,31 @@ module _ (f : ℕ) (l : PlaneLayout) (packed : List ℕ) (pitch : ℕ) (depth st
 
   -- the clauses of `unpack`, for the reply's number n and the planes D and S at exit
   abbrev pub Unpacked : ℕ → List ℕ → List ℕ → Type 0
-  Unpacked n D S =
-      (n ≡ refusal)
-      × (((D ≡ unpacked_depth f l packed pitch depth stencil) × (S ≡ unpacked_stencil f l packed pitch depth stencil))
-      × ((n ≡ 0 → KeepsAll f → Restores f l packed pitch D S) × PlanesKept f l depth D stencil S))
-
-  pub unpack_refused : (n : ℕ) → n ≡ refusal → 0 < refusal → Unpacked n depth stencil
-  unpack_refused n e h = (
-    e,
-    (
-      unpacked_refused f l packed pitch depth stencil h,
-      ((λ z. absurd (omega arith)), record { depth_padding = λ k none. refl; stencil_padding = λ k none. refl; no_stencil = λ s. refl }),
-    ),
-  )
+  Unpacked n D S = record {
+    reply : n ≡ refusal;
+    planes : (D ≡ unpacked_depth f l packed pitch depth stencil) × (S ≡ unpacked_stencil f l packed pitch depth stencil);
+    restores : n ≡ 0 → KeepsAll f → Restores f l packed pitch D S;
+    kept : PlanesKept f l depth D stencil S;
+  }
 
   pub unpack_accepted : refusal ≡ 0 → Bytewise packed → (D S : List ℕ) → D ≡ depth_plane f l packed pitch depth → S ≡ stencil_plane f l packed pitch stencil → Unpacked 0 D S
   unpack_accepted e small D S d s =
       subst (λ D. Unpacked 0 D S) (sym d)
-      (subst (λ S. Unpacked 0 (depth_plane f l packed pitch depth) S) (sym s) (
-        sym e,
-        (
-          unpacked_accepted f l packed pitch depth stencil e,
-          (
-            (λ z k. round_trip f l packed pitch depth stencil (accepts f l (length packed) pitch (length depth) (length stencil) e) k (small_list packed (λ i h. small i))),
-            planes_kept f l packed pitch depth stencil,
-          ),
-        ),
-      ))
+      (subst (λ S. Unpacked 0 (depth_plane f l packed pitch depth) S) (sym s) record {
+        reply = sym e;
+        planes = unpacked_accepted f l packed pitch depth stencil e;
+        restores = λ z k. round_trip f l packed pitch depth stencil (accepts f l (length packed) pitch (length depth) (length stencil) e) k (small_list packed (λ i h. small i));
+        kept = planes_kept f l packed pitch depth stencil;
+      })
 
   -- the clauses of `pack`, for the reply's number n and the packed buffer P at exit
   abbrev pub Packed : ℕ → List ℕ → Type 0
-  Packed n P =
-      (n ≡ refusal) × ((P ≡ packed_buffer f l depth stencil packed pitch) × ((n ≡ 0 → NearestCodes f l depth P pitch) × SameElsewhere pitch (bytes_of f) l.width l.height packed P))
-
-  pub pack_refused : (n : ℕ) → n ≡ refusal → 0 < refusal → Packed n packed
-  pack_refused n e h = (e, (packed_refused f l packed pitch depth stencil h, ((λ z. absurd (omega arith)), (λ k none. refl))))
+  Packed n P = record {
+    reply : n ≡ refusal;
+    bytes : P ≡ packed_buffer f l depth stencil packed pitch;
+    nearest : n ≡ 0 → NearestCodes f l depth P pitch;
+    kept : SameElsewhere pitch (bytes_of f) l.width l.height packed P;
+  }
 
   stencil_small : Bytewise stencil → (a : ℕ) → stencil_at f stencil a < 256
   unfolding stencil_at
@@ -82,19 +70,15 @@ module _ (f : ℕ) (l : PlaneLayout) (packed : List ℕ) (pitch : ℕ) (depth st
 
   pub pack_accepted : refusal ≡ 0 → Bytewise stencil → (P : List ℕ) → P ≡ packed_pixels f l depth stencil pitch packed → Packed 0 P
   pack_accepted e small P p =
-      subst (Packed 0) (sym p) (
-        sym e,
-        (
-          packed_accepted f l packed pitch depth stencil e,
-          (
-            (λ z x y xl yl. nearest_packed f l depth stencil packed pitch (accepts f l (length packed) pitch (length depth) (length stencil) e) x y xl yl (stencil_small small _)),
-            packed_kept f l depth stencil packed pitch,
-          ),
-        ),
-      )
+      subst (Packed 0) (sym p) record {
+        reply = sym e;
+        bytes = packed_accepted f l packed pitch depth stencil e;
+        nearest = λ z x y xl yl. nearest_packed f l depth stencil packed pitch (accepts f l (length packed) pitch (length depth) (length stencil) e) x y xl yl (stencil_small small _);
+        kept = packed_kept f l depth stencil packed pitch;
+      }
 
 -- ---- unpacking and then packing, from the two contracts alone
-module _ (f : ℕ) (l : PlaneLayout) (packed : List ℕ) (pitch : ℕ) (depth stencil D S out : List ℕ) (pitch₂ m : ℕ) (first : Unpacked f l packed pitch depth stencil m D S) where
+module _ (f : ℕ) (l : PlaneLayout) (packed : List ℕ) (pitch : ℕ) (depth stencil D S out : List ℕ) (pitch₂ : ℕ) (first : Unpacked f l packed pitch depth stencil 0 D S) where
   -- the refusals of the two calls
   abbrev unpacking : ℕ
   unpacking = refusal_of f l (length packed) pitch (length depth) (length stencil)
@@ -104,27 +88,18 @@ module _ (f : ℕ) (l : PlaneLayout) (packed : List ℕ) (pitch : ℕ) (depth st
 
   -- the clauses of `restore`, for the reply's number n and the buffer O at exit
   abbrev pub Restored : ℕ → List ℕ → Type 0
-  Restored n O =
-      (n ≡ first_refusal unpacking packing)
-      × (((D ≡ unpacked_depth f l packed pitch depth stencil) × (S ≡ unpacked_stencil f l packed pitch depth stencil))
-      × ((O ≡ if_accepted unpacking (packed_buffer f l D S out pitch₂) out) × (n ≡ 0 → KeepsAll f → SamePixels f l packed pitch O pitch₂)))
+  Restored n O = record {
+    reply : n ≡ first_refusal unpacking packing;
+    planes : (D ≡ unpacked_depth f l packed pitch depth stencil) × (S ≡ unpacked_stencil f l packed pitch depth stencil);
+    bytes : O ≡ if_accepted unpacking (packed_buffer f l D S out pitch₂) out;
+    restores : n ≡ 0 → KeepsAll f → SamePixels f l packed pitch O pitch₂;
+  }
 
-  pub not_restored : eqb m 0 ≡ false → Restored m out
-  not_restored e =
-      let t : eqb unpacking 0 ≡ false = ap (λ n. eqb n 0) (sym first.0) ∙ e in (
-        first.0 ∙ ap (λ t. pick t packing unpacking) (sym t),
-        (first.1.0, (ap (λ t. pick t (packed_buffer f l D S out pitch₂) out) (sym t), (λ z. absurd (eqb-false m 0 e z)))),
-      )
-
-  pub restored_by : eqb m 0 ≡ true → length D ≡ length depth → length S ≡ length stencil → (n : ℕ) (O : List ℕ) → Packed f l out pitch₂ D S n O → Restored n O
-  restored_by e d s n O second =
-      let t : eqb unpacking 0 ≡ true = ap (λ n. eqb n 0) (sym first.0) ∙ e in (
-        second.0 ∙ ap₂ (refusal_of f l (length out) pitch₂) d s ∙ ap (λ t. pick t packing unpacking) (sym t),
-        (
-          first.1.0,
-          (
-            second.1.0 ∙ ap (λ t. pick t (packed_buffer f l D S out pitch₂) out) (sym t),
-            (λ z k x y xl yl. ap (pixel_in pitch₂ (bytes_of f) x y) second.1.0 ∙ first.1.1.0 (eqb-true m 0 e) k out pitch₂ (sym second.0 ∙ z) x y xl yl),
-          ),
-        ),
-      )
+  pub restored_by : length D ≡ length depth → length S ≡ length stencil → (n : ℕ) (O : List ℕ) → Packed f l out pitch₂ D S n O → Restored n O
+  restored_by d s n O second =
+      let t : eqb unpacking 0 ≡ true = ap (λ n. eqb n 0) (sym first.reply) in record {
+        reply = second.reply ∙ ap₂ (refusal_of f l (length out) pitch₂) d s ∙ ap (λ t. pick t packing unpacking) (sym t);
+        planes = first.planes;
+        bytes = second.bytes ∙ ap (λ t. pick t (packed_buffer f l D S out pitch₂) out) (sym t);
+        restores = λ z k x y xl yl. ap (pixel_in pitch₂ (bytes_of f) x y) second.bytes ∙ first.restores refl k out pitch₂ (sym second.reply ∙ z) x y xl yl;
+      }

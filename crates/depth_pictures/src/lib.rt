@@ -11,7 +11,9 @@ ghost use Rattle.depth_texture.specs.Planes.{depth_plane, stencil_plane, packed_
 ghost use Rattle.depth_texture.specs.Promises.{first_refusal, SamePixels, Restores, SameElsewhere, PlanesKept, NearestCodes};
 
 use depth_pixels::PackedDepth;
-use depth_texture::{DepthCheck, DepthReply, PlaneLayout};
+use depth_texture::{DepthRefusal, PlaneLayout};
+
+// ---- formats are numbers here, as the C interface hands them over
 
 // Each pixel's depth goes to the depth plane, and its stencil, where the format has one, to the stencil plane. Without a stencil
 // that plane is not written, and it may be empty.
@@ -22,25 +24,21 @@ pub fn unpack(
     packed_pitch: usize,
     depth: &mut [u8],
     stencil: &mut [u8],
-) -> DepthReply
+) -> Result<(), DepthRefusal>
     ensures reply { reply_number result ≡ refusal_of format layout (length packed.now) packed_pitch (length depth.old) (length stencil.old) }
     ensures planes { (depth.new ≡ unpacked_depth format layout packed.now packed_pitch depth.old stencil.old) × (stencil.new ≡ unpacked_stencil format layout packed.now packed_pitch depth.old stencil.old) }
     ensures restores { reply_number result ≡ 0 → KeepsAll format → Restores format layout packed.now packed_pitch depth.new stencil.new }
     ensures kept { PlanesKept format layout depth.old depth.new stencil.old stencil.new }
 {
-    match layout.check(
+    let kind = layout.check(
         format,
         packed.len(),
         packed_pitch,
         depth.len(),
         stencil.len(),
-    ) {
-        DepthCheck::Refused(reply) => reply,
-        DepthCheck::Depth(kind) => {
-            unpack_rows(layout, kind, packed, packed_pitch, depth, stencil);
-            DepthReply::Accepted
-        }
-    }
+    )?;
+    unpack_rows(layout, kind, packed, packed_pitch, depth, stencil);
+    Ok(())
 }
 
 // Each pixel is packed from the depth plane's binary32 number, whatever it is, and the stencil plane's byte, where the format has
@@ -52,25 +50,21 @@ pub fn pack(
     stencil: &[u8],
     packed: &mut [u8],
     packed_pitch: usize,
-) -> DepthReply
+) -> Result<(), DepthRefusal>
     ensures reply { reply_number result ≡ refusal_of format layout (length packed.old) packed_pitch (length depth.now) (length stencil.now) }
     ensures bytes { packed.new ≡ packed_buffer format layout depth.now stencil.now packed.old packed_pitch }
     ensures nearest { reply_number result ≡ 0 → NearestCodes format layout depth.now packed.new packed_pitch }
     ensures kept { SameElsewhere packed_pitch (bytes_of format) layout.width layout.height packed.old packed.new }
 {
-    match layout.check(
+    let kind = layout.check(
         format,
         packed.len(),
         packed_pitch,
         depth.len(),
         stencil.len(),
-    ) {
-        DepthCheck::Refused(reply) => reply,
-        DepthCheck::Depth(kind) => {
-            pack_rows(layout, kind, depth, stencil, packed, packed_pitch);
-            DepthReply::Accepted
-        }
-    }
+    )?;
+    pack_rows(layout, kind, depth, stencil, packed, packed_pitch);
+    Ok(())
 }
 
 // Every row of a picture whose buffers were tested.
@@ -86,17 +80,11 @@ fn unpack_rows(
     ensures depth { depth.new ≡ depth_plane (format_code kind) layout packed.now packed_pitch depth.old }
     ensures stencil { stencil.new ≡ stencil_plane (format_code kind) layout packed.now packed_pitch stencil.old }
 {
-    let width = layout.width;
-    let height = layout.height;
-    let depth_pitch = layout.depth_pitch;
-    let stencil_pitch = layout.stencil_pitch;
-    let mut y: usize = 0;
-    while y < height {
+    for y in 0..layout.height {
         let from = y * packed_pitch;
-        let to = y * depth_pitch;
-        let at = y * stencil_pitch;
-        depth_rows::unpack_row(kind, packed, from, depth, to, stencil, at, width);
-        y += 1;
+        let to = y * layout.depth_pitch;
+        let at = y * layout.stencil_pitch;
+        depth_rows::unpack_row(kind, packed, from, depth, to, stencil, at, layout.width);
     }
 }
 
@@ -112,17 +100,11 @@ fn pack_rows(
     requires { Accepts (format_code kind) layout (length packed.old) packed_pitch (length depth.now) (length stencil.now) }
     ensures { packed.new ≡ packed_pixels (format_code kind) layout depth.now stencil.now packed_pitch packed.old }
 {
-    let width = layout.width;
-    let height = layout.height;
-    let depth_pitch = layout.depth_pitch;
-    let stencil_pitch = layout.stencil_pitch;
-    let mut y: usize = 0;
-    while y < height {
+    for y in 0..layout.height {
         let to = y * packed_pitch;
-        let from = y * depth_pitch;
-        let at = y * stencil_pitch;
-        depth_rows::pack_row(kind, packed, to, depth, from, stencil, at, width);
-        y += 1;
+        let from = y * layout.depth_pitch;
+        let at = y * layout.stencil_pitch;
+        depth_rows::pack_row(kind, packed, to, depth, from, stencil, at, layout.width);
     }
 }
 
@@ -137,16 +119,12 @@ pub fn restore(
     stencil: &mut [u8],
     out: &mut [u8],
     out_pitch: usize,
-) -> DepthReply
+) -> Result<(), DepthRefusal>
     ensures reply { reply_number result ≡ first_refusal (refusal_of format layout (length packed.now) packed_pitch (length depth.old) (length stencil.old)) (refusal_of format layout (length out.old) out_pitch (length depth.old) (length stencil.old)) }
     ensures planes { (depth.new ≡ unpacked_depth format layout packed.now packed_pitch depth.old stencil.old) × (stencil.new ≡ unpacked_stencil format layout packed.now packed_pitch depth.old stencil.old) }
     ensures bytes { out.new ≡ if_accepted (refusal_of format layout (length packed.now) packed_pitch (length depth.old) (length stencil.old)) (packed_buffer format layout depth.new stencil.new out.old out_pitch) out.old }
     ensures restores { reply_number result ≡ 0 → KeepsAll format → SamePixels format layout packed.now packed_pitch out.new out_pitch }
 {
-    let reply = unpack(layout, format, packed, packed_pitch, depth, stencil);
-    if reply.is_accepted() {
-        pack(layout, format, depth, stencil, out, out_pitch)
-    } else {
-        reply
-    }
+    unpack(layout, format, packed, packed_pitch, depth, stencil)?;
+    pack(layout, format, depth, stencil, out, out_pitch)
 }

@@ -1,11 +1,10 @@
 -- The code of a depth as a half is rounded up, and a NaN, which counts as 0. Assumes nothing.
-use mathlib.Core.Path.{◌≡◌, sym, ap, ◌∙◌, subst}
-use mathlib.Core.Bool.{true, false, not, true≢false}
+use mathlib.Core.Path.{◌≡◌, refl, sym, ap, ◌∙◌, subst}
+use mathlib.Core.Bool.{true, not, true≢false}
 use Prim.Native.Nat.{ℕ, ◌*◌, ◌%◌, ◌≤◌}
 use native.Mathlib.Nat.{mul_comm}
 use lib.Dec.{T}
-use lib.Ieee.{Float, nan, inf, fin, binary32, of_bits, of_fields, odd, is_nan, ne}
-use lib.Ieee.Compare.{differs_from_itself}
+use lib.Ieee.{Float, nan, inf, fin, binary32, of_bits, of_fields, odd, is_nan}
 use lib.Ieee.Nearest.{closest}
 use Rattle.channels.specs.Nearest.{rounded}
 use Rattle.channels.specs.Even.{alike}
@@ -27,12 +26,12 @@ pub zero_number : T (not (is_nan (of_bits binary32 0)))
 unfolding of_bits of_fields odd is_nan
 zero_number = tt
 
--- the test `x != x`
-pub tested_nan : (x : Float) → ne x x ≡ true → clamped (of_bits binary32 0) ≡ clamped x
-tested_nan x h = zero_clamped ∙ sym (ap clamped (differs_from_itself x (subst T (sym h) tt)))
+-- the test `is_nan`
+nan_is : (x : Float) → is_nan x ≡ true → x ≡ nan
+unfolding is_nan
+nan_is nan h = refl
+nan_is (inf s) h = absurd (true≢false (sym h))
+nan_is (fin s m e) h = absurd (true≢false (sym h))
 
-pub tested_number : (x : Float) → ne x x ≡ false → T (not (is_nan x))
-unfolding ne is_nan
-tested_number nan h = absurd (true≢false h)
-tested_number (inf s) h = tt
-tested_number (fin s m e) h = tt
+pub tested_nan : (x : Float) → is_nan x ≡ true → clamped (of_bits binary32 0) ≡ clamped x
+tested_nan x h = zero_clamped ∙ sym (ap clamped (nan_is x h))

@@ -1,6 +1,6 @@
 -- Packed depth pixels, by the lane table of formats: a pixel is the little-endian number of its bytes, its word.
 -- Assumes nothing.
-use Rattle.std.specs.Prelude.{◌≡◌, Bool, true, false, List, [], ◌∷◌, ◌⊎◌, ℕ, ◌-◌, ◌^◌}
+use Rattle.std.specs.Prelude.{◌≡◌, Bool, true, false, Option, Some, None, List, [], ◌∷◌, ◌⊎◌, ℕ, ◌-◌, ◌^◌}
 use Rattle.words.specs.Little.{bytes}
 use Rattle.formats.specs.Codes as codes
 use Rattle.formats.specs.Lanes.{Channel, red, green, blue, alpha, luminance, depth, stencil, padding, Lane, nowhere, at, code_at, packed}
@@ -8,8 +8,6 @@ use Rattle.formats.specs.Table.{parts_of, lane_of, bytes_of, width_of}
 use Rattle.formats.specs.Classes.{listed}
 use Rattle.depth_pixels.specs.declared.PackedDepth.{PackedDepth}
 use Rattle.depth_pixels.specs.declared.PackedDepth.TheVariants.{D16, D24X8, D24S8}
-use Rattle.depth_pixels.specs.declared.PackedDepthCode.{PackedDepthCode}
-use Rattle.depth_pixels.specs.declared.PackedDepthCode.TheVariants.{Depth, Other}
 use Rattle.depth_pixels.specs.declared.DepthStencil.{DepthStencil}
 use Rattle.depth_pixels.specs.Depth.{depth_of, code_for}
 
@@ -24,9 +22,9 @@ unfoldable pub is_packed_depth : ℕ → Bool
 is_packed_depth f = listed f (codes.D16 ∷ codes.D24X8 ∷ codes.D24S8 ∷ [])
 
 -- what the code f stands for: the format that has it, and no format only where none has it
-abbrev pub StandsFor : ℕ → PackedDepthCode → Type 0
-StandsFor f (Depth d) = format_code d ≡ f
-StandsFor f Other = is_packed_depth f ≡ false
+abbrev pub StandsFor : ℕ → Option PackedDepth → Type 0
+StandsFor f (Some d) = format_code d ≡ f
+StandsFor f None = is_packed_depth f ≡ false
 
 -- there is a lane
 abbrev is_lane : Lane → Bool

@@ -4,17 +4,18 @@
 // Ported from depth_texture.rs of athei/mtld3d (an altered version, see NOTICE).
 #![tactic(auto)]
 
-ghost use Rattle.std.specs.Prelude.{◌≡◌, not, ◌+◌, ◌-◌, ◌%◌, ◌≤◌, ◌<◌, max, length, T};
+ghost use Rattle.std.specs.Prelude.{◌≡◌, ℕ, Bool, true, false, not, ◌+◌, ◌-◌, ◌%◌, ◌≤◌, ◌<◌, max, length, T};
+ghost use Rattle.std.proofs.Common.{sym};
 ghost use Rattle.std.proofs.lemmas.List.Edits.{sets};
 ghost use Rattle.std.specs.Float.{binary32};
 ghost use Rattle.std.specs.Float.Ieee.{of_bits, to_bits, is_nan};
 ghost use Rattle.words.specs.Little.{bytes};
-ghost use Rattle.formats.specs.Codes as codes;
 ghost use Rattle.formats.specs.Table.{bytes_of};
 ghost use Rattle.channels.specs.Floats.{clamped};
 ghost use Rattle.depth_pixels.specs.Depth.{code_for};
 ghost use Rattle.depth_pixels.specs.Pixels.{format_code, StandsFor, has_stencil, decoded, encoded};
 ghost use Rattle.depth_pixels.specs.PixelBytes.{word_at};
+ghost use Rattle.depth_pixels.specs.PackedFormats.{size_d16, size_d24x8, size_d24s8, stencil_d16, stencil_d24x8, stencil_d24s8};
 
 use channels::f32_to_nearest_code;
 use formats::{D3DFMT_D16, D3DFMT_D24S8, D3DFMT_D24X8};
@@ -28,13 +29,6 @@ pub enum PackedDepth {
     D24S8,
 }
 
-// What a format code stands for: a packed depth format, or none.
-#[derive(Clone, Copy)]
-pub enum PackedDepthCode {
-    Depth(PackedDepth),
-    Other,
-}
-
 // What a pixel stands for. Without a stencil that is 0.
 #[derive(Clone, Copy)]
 pub struct DepthStencil {
@@ -42,101 +36,114 @@ pub struct DepthStencil {
     pub stencil: u8,
 }
 
+// A packed depth format as a type, so that the compiler makes loops of their own for each.
+pub trait PackedPixel {
+    ghost use Rattle.depth_pixels.specs.declared.PackedDepth.{PackedDepth};
+
+    // Packed bytes per pixel.
+    const SIZE: usize;
+
+    // Whether a second plane carries stencil bytes.
+    const STENCIL: bool;
+
+    ghost SIZE: { ℕ };
+
+    ghost STENCIL: { Bool };
+
+    // The format.
+    ghost kind: { PackedDepth };
+
+    // The depth and the stencil of the pixel at the front of a part of a row.
+    fn decode(pixel: &[u8]) -> DepthStencil
+        requires { SIZE ≤ length pixel.now }
+        ensures { result ≡ decoded (format_code kind) (word_at (format_code kind) pixel.now 0) };
+
+    // A depth, as the nearest code, and a stencil, packed at the front of a part of a row.
+    fn encode(value: DepthStencil, pixel: &mut [u8])
+        requires { (SIZE ≤ length pixel.old) × T (not (is_nan value.depth)) }
+        ensures { pixel.new ≡ sets pixel.old 0 (encoded (format_code kind) value) };
+
+    ghost sized: { SIZE ≡ bytes_of (format_code kind) };
+
+    ghost has: { STENCIL ≡ has_stencil (format_code kind) };
+}
+
 impl PackedDepth {
     // The packed depth format that has this code.
-    pub fn from_d3d(format: u32) -> PackedDepthCode
+    #[tactic(auto, using(crate::specs::PackedFormats::not_packed))]
+    pub fn from_d3d(format: u32) -> Option<PackedDepth>
         ensures { StandsFor format result }
     {
         match format {
-            D3DFMT_D16 => PackedDepthCode::Depth(PackedDepth::D16),
-            D3DFMT_D24X8 => PackedDepthCode::Depth(PackedDepth::D24X8),
-            D3DFMT_D24S8 => PackedDepthCode::Depth(PackedDepth::D24S8),
-            _ => PackedDepthCode::Other,
+            D3DFMT_D16 => Some(PackedDepth::D16),
+            D3DFMT_D24X8 => Some(PackedDepth::D24X8),
+            D3DFMT_D24S8 => Some(PackedDepth::D24S8),
+            _ => None,
         }
     }
 
+    // The kind is known at run time alone: each method chooses the type by it.
+
     // Packed bytes per pixel.
+    #[tactic(auto, using(crate::specs::PackedFormats::size_d16, crate::specs::PackedFormats::size_d24x8, crate::specs::PackedFormats::size_d24s8))]
     pub fn bytes_per_pixel(self) -> usize
         ensures { result ≡ bytes_of (format_code self) }
     {
         match self {
-            PackedDepth::D16 => 2,
-            PackedDepth::D24X8 => 4,
-            PackedDepth::D24S8 => 4,
+            PackedDepth::D16 => D16::SIZE,
+            PackedDepth::D24X8 => D24X8::SIZE,
+            PackedDepth::D24S8 => D24S8::SIZE,
         }
     }
 
     // Whether a second plane carries stencil bytes.
+    #[tactic(auto, using(crate::specs::PackedFormats::stencil_d16, crate::specs::PackedFormats::stencil_d24x8, crate::specs::PackedFormats::stencil_d24s8))]
     pub fn has_stencil(self) -> bool
         ensures { result ≡ has_stencil (format_code self) }
     {
         match self {
-            PackedDepth::D16 => false,
-            PackedDepth::D24X8 => false,
-            PackedDepth::D24S8 => true,
+            PackedDepth::D16 => D16::STENCIL,
+            PackedDepth::D24X8 => D24X8::STENCIL,
+            PackedDepth::D24S8 => D24S8::STENCIL,
         }
     }
 
     // The depth and the stencil of the pixel at the front of a part of a row.
+    #[tactic(auto, using(crate::specs::PackedFormats::size_d16, crate::specs::PackedFormats::size_d24x8, crate::specs::PackedFormats::size_d24s8))]
     pub fn decode(self, pixel: &[u8]) -> DepthStencil
         requires { bytes_of (format_code self) ≤ length pixel.now }
         ensures { result ≡ decoded (format_code self) (word_at (format_code self) pixel.now 0) }
     {
         match self {
-            PackedDepth::D16 => decode_d16(pixel),
-            PackedDepth::D24X8 => decode_d24x8(pixel),
-            PackedDepth::D24S8 => decode_d24s8(pixel),
+            PackedDepth::D16 => D16::decode(pixel),
+            PackedDepth::D24X8 => D24X8::decode(pixel),
+            PackedDepth::D24S8 => D24S8::decode(pixel),
         }
     }
 
     // A depth, as the nearest code, and a stencil, packed at the front of a part of a row. A NaN is 0, and D24X8's unused byte is 0.
+    #[tactic(auto, using(crate::specs::PackedFormats::size_d16, crate::specs::PackedFormats::size_d24x8, crate::specs::PackedFormats::size_d24s8, crate::proofs::Coding::encoded_same))]
     pub fn encode(self, value: DepthStencil, pixel: &mut [u8])
         requires { bytes_of (format_code self) ≤ length pixel.old }
         ensures { pixel.new ≡ sets pixel.old 0 (encoded (format_code self) value) }
     {
         let number = without_nan(value);
         match self {
-            PackedDepth::D16 => encode_d16(number, pixel),
-            PackedDepth::D24X8 => encode_d24x8(number, pixel),
-            PackedDepth::D24S8 => encode_d24s8(number, pixel),
+            PackedDepth::D16 => D16::encode(number, pixel),
+            PackedDepth::D24X8 => D24X8::encode(number, pixel),
+            PackedDepth::D24S8 => D24S8::encode(number, pixel),
         }
     }
 }
 
-// D16: the word is the code.
-pub fn decode_d16(pixel: &[u8]) -> DepthStencil
-    requires { 2 ≤ length pixel.now }
-    ensures { result ≡ decoded codes.D16 (word_at codes.D16 pixel.now 0) }
-{
-    DepthStencil {
-        depth: (le16(pixel) as f32) / 65535.0,
-        stencil: 0,
-    }
-}
+// The word is the code, and there is no stencil.
+pub struct D16;
 
-// D24X8: the code lies below the unused byte.
-pub fn decode_d24x8(pixel: &[u8]) -> DepthStencil
-    requires { 4 ≤ length pixel.now }
-    ensures { result ≡ decoded codes.D24X8 (word_at codes.D24X8 pixel.now 0) }
-{
-    let word = le32(pixel);
-    DepthStencil {
-        depth: ((word % 0x100_0000) as f32) / 16777215.0,
-        stencil: 0,
-    }
-}
+// The code lies below an unused byte.
+pub struct D24X8;
 
-// D24S8: the code lies above the stencil byte.
-pub fn decode_d24s8(pixel: &[u8]) -> DepthStencil
-    requires { 4 ≤ length pixel.now }
-    ensures { result ≡ decoded codes.D24S8 (word_at codes.D24S8 pixel.now 0) }
-{
-    let word = le32(pixel);
-    DepthStencil {
-        depth: ((word / 0x100) as f32) / 16777215.0,
-        stencil: (word % 0x100) as u8,
-    }
-}
+// The code lies above the stencil byte.
+pub struct D24S8;
 
 // The code of the depth with these bits, where max is the largest code: the only tie is at one half, where the upper code is the
 // even one, as max is 3 above a multiple of 4.
@@ -160,44 +167,114 @@ fn without_nan(value: DepthStencil) -> DepthStencil
     ensures same { (clamped result.depth ≡ clamped value.depth) × (result.stencil ≡ value.stencil) }
     ensures number { T (not (is_nan result.depth)) }
 {
-    if value.depth != value.depth {
-        return DepthStencil {
+    if value.depth.is_nan() {
+        DepthStencil {
             depth: 0.0,
             stencil: value.stencil,
-        };
+        }
+    } else {
+        value
     }
-    value
 }
 
-// D16: the word is the code, and there is no stencil.
-pub fn encode_d16(value: DepthStencil, pixel: &mut [u8])
-    requires { (2 ≤ length pixel.old) × T (not (is_nan value.depth)) }
-    ensures { pixel.new ≡ sets pixel.old 0 (encoded codes.D16 value) }
-{
-    put16(pixel, code_of(65535, value.depth) as u16);
+impl PackedPixel for D16 {
+    ghost use Rattle.depth_pixels.specs.declared.PackedDepth.TheVariants as kinds;
+
+    const SIZE: usize = 2;
+
+    const STENCIL: bool = false;
+
+    ghost SIZE = { 2 };
+
+    ghost STENCIL = { false };
+
+    ghost kind = { kinds.D16 };
+
+    fn decode(pixel: &[u8]) -> DepthStencil {
+        DepthStencil {
+            depth: (le16(pixel) as f32) / 65535.0,
+            stencil: 0,
+        }
+    }
+
+    #[tactic(auto, using(crate::specs::Restoration::code_for_lem))]
+    fn encode(value: DepthStencil, pixel: &mut [u8]) {
+        put16(pixel, code_of(65535, value.depth) as u16);
+    }
+
+    ghost sized = { sym size_d16 };
+
+    ghost has = { sym stencil_d16 };
 }
 
 // What packing writes into D24X8's unused byte.
 const UNUSED: u32 = 0;
 
-// D24X8: the code below the unused byte.
-pub fn encode_d24x8(value: DepthStencil, pixel: &mut [u8])
-    requires { (4 ≤ length pixel.old) × T (not (is_nan value.depth)) }
-    ensures { pixel.new ≡ sets pixel.old 0 (encoded codes.D24X8 value) }
-{
-    let code = code_of(16777215, value.depth) as u32;
-    put32(pixel, UNUSED * 0x100_0000 + code);
+impl PackedPixel for D24X8 {
+    ghost use Rattle.depth_pixels.specs.declared.PackedDepth.TheVariants as kinds;
+
+    const SIZE: usize = 4;
+
+    const STENCIL: bool = false;
+
+    ghost SIZE = { 4 };
+
+    ghost STENCIL = { false };
+
+    ghost kind = { kinds.D24X8 };
+
+    fn decode(pixel: &[u8]) -> DepthStencil {
+        let word = le32(pixel);
+        DepthStencil {
+            depth: ((word % 0x100_0000) as f32) / 16777215.0,
+            stencil: 0,
+        }
+    }
+
+    #[tactic(auto, using(crate::specs::Restoration::code_for_lem))]
+    fn encode(value: DepthStencil, pixel: &mut [u8]) {
+        let code = code_of(16777215, value.depth) as u32;
+        put32(pixel, UNUSED * 0x100_0000 + code);
+    }
+
+    ghost sized = { sym size_d24x8 };
+
+    ghost has = { sym stencil_d24x8 };
 }
 
-// D24S8: the stencil byte, and above it the code's bytes from the lowest one on.
-pub fn encode_d24s8(value: DepthStencil, pixel: &mut [u8])
-    requires { (4 ≤ length pixel.old) × T (not (is_nan value.depth)) }
-    ensures { pixel.new ≡ sets pixel.old 0 (encoded codes.D24S8 value) }
-{
-    let code = code_of(16777215, value.depth) as u32;
-    let lowest = code % 0x100;
-    let stencil = value.stencil as u32;
-    put32(pixel, code / 0x100 * 0x1_0000 + lowest * 0x100 + stencil);
+impl PackedPixel for D24S8 {
+    ghost use Rattle.depth_pixels.specs.declared.PackedDepth.TheVariants as kinds;
+
+    const SIZE: usize = 4;
+
+    const STENCIL: bool = true;
+
+    ghost SIZE = { 4 };
+
+    ghost STENCIL = { true };
+
+    ghost kind = { kinds.D24S8 };
+
+    fn decode(pixel: &[u8]) -> DepthStencil {
+        let word = le32(pixel);
+        DepthStencil {
+            depth: ((word / 0x100) as f32) / 16777215.0,
+            stencil: (word % 0x100) as u8,
+        }
+    }
+
+    // The stencil byte, and above it the code's bytes from the lowest one on.
+    #[tactic(auto, using(crate::specs::Restoration::code_for_lem))]
+    fn encode(value: DepthStencil, pixel: &mut [u8]) {
+        let code = code_of(16777215, value.depth) as u32;
+        let lowest = code % 0x100;
+        let stencil = value.stencil as u32;
+        put32(pixel, code / 0x100 * 0x1_0000 + lowest * 0x100 + stencil);
+    }
+
+    ghost sized = { sym size_d24s8 };
+
+    ghost has = { sym stencil_d24s8 };
 }
 
 // A depth's four bytes, at byte `at` of a depth plane.

@@ -1,4 +1,3 @@
 -- What the proofs of several functions use.
 pub mod Rows
-pub mod Arms
 pub mod AboveInfinity

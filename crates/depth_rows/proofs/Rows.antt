@@ -1,14 +1,14 @@
--- A loop over a row, for any size of a pixel and any content; and one pixel of it: what was decoded from a part of the packed row is stored, and what
--- was loaded is packed. Assumes nothing.
+-- A row by its columns; one pixel of it, where what was decoded from a part of the packed row is stored and what was loaded is packed; and the rows of
+-- a picture. Assumes nothing.
 use mathlib.Core.Path.{◌≡◌, refl, sym, ap, ap₂, ◌∙◌, subst}
-use mathlib.Core.Bool.{Bool, true, false, not}
+use mathlib.Core.Bool.{Bool, true, false, not, true≢false}
 use mathlib.Core.List.{List, ◌++◌}
-use Prim.Native.Nat.{ℕ, ◌+◌, ◌-◌, ◌*◌, ◌≤◌, ◌<◌}
-use native.Mathlib.Nat.{mul-one, mul_comm, mul-le-mul_right, mod-eq_of_lt, le_trans, le_antisymm, le_of_lt}
+use Prim.Native.Nat.{ℕ, ◌+◌, ◌-◌, ◌*◌, ◌≤◌}
+use native.Mathlib.Nat.{mul-one, mod-eq_of_lt, le_trans, le_of_lt}
 use native.Mathlib.Omega.{arith}
 use lib.Dec.{T}
 use lib.ListN.{length, take, drop, set, get_or}
-use lib.Seq.{sets, length-sets}
+use lib.Seq.{sets}
 use lib.Ieee.{Float, binary32, to_bits, is_nan}
 use Rattle.words.specs.Little.{bytes, number, length_bytes}
 use Rattle.words.specs.Slices.{part_read, part_back}
@@ -22,33 +22,52 @@ use Rattle.depth_pixels.specs.Restoration.{depth_no_nan}
 use Rattle.depth_pixels.specs.Pixels.{format_code, has_stencil, max_code, depth_code, decoded, pixel_word, encoded}
 use Rattle.depth_pixels.specs.PackedFormats.{sizes, depth_code_le, stencil_lt}
 use Rattle.depth_pixels.specs.PixelBytes.{word_at, depth_at, depth_bytes, stencil_bytes, stencil_at, packed_bytes, depth_row, stencil_row, packed_row}
-use Rattle.depth_pixels.specs.Pictures.{place, written_row, written, RowIn, row_none, row_more, rows_none, rows_more}
+use Rattle.depth_pixels.specs.Pictures.{place, written_row, written, row_none, row_more, rows_none, rows_more}
 use Rattle.depth_pixels.proofs.Coding.{encoded_same}
 
--- ---- a loop over a row
--- before column x: the columns before it hold their content, and the list is as long as it was
-pub record Turn (from size width : ℕ) (content : ℕ → List ℕ) (l₀ l : List ℕ) (x : ℕ) : Type 0 where
-  pub columns : l ≡ written_row from size x content l₀
-  pub long : length l ≡ length l₀
-  pub within : x ≤ width
+-- ---- a row by its columns: none, and one more
+pub depths_begun : (f : ℕ) (packed : List ℕ) (from to : ℕ) (l : List ℕ) → l ≡ depth_row f packed from to 0 l
+unfolding depth_row
+depths_begun f packed from to l = row_none to 4 _ l
 
-pub first_turn : {from size width : ℕ} {content : ℕ → List ℕ} {l : List ℕ} → Turn from size width content l l 0
-first_turn {from} {size} {width} {content} {l} = record { columns = row_none from size content l; long = refl; within = omega arith }
+pub depths_next : (f : ℕ) (packed : List ℕ) (from to x : ℕ) (l₀ l l' : List ℕ) → l ≡ depth_row f packed from to x l₀ → l' ≡ sets l (to + x * 4) (depth_bytes f packed (from + x * bytes_of f))
+    → l' ≡ depth_row f packed from to (x + 1) l₀
+unfolding depth_row
+depths_next f packed from to x l₀ l l' e e' = row_more to 4 _ x l₀ l l' e e'
 
-module _ {from size width : ℕ} {content : ℕ → List ℕ} {l₀ l : List ℕ} {x : ℕ} (t : Turn from size width content l₀ l x) where
-  -- this column's bytes are there
-  pub column_in : x < width → RowIn (length l₀) from size width → from + x * size + size ≤ length l
-  column_in h room = omega (arith, room x h, t.long)
+pub stencils_begun : (f : ℕ) (packed : List ℕ) (from at : ℕ) (l : List ℕ) → l ≡ stencil_row f packed from at 0 l
+unfolding stencil_row
+stencils_begun f packed from at l = go (has_stencil f)
+  where
+    go : (t : Bool) → l ≡ pick t (written_row at 1 0 (λ x. stencil_bytes f packed (from + x * bytes_of f)) l) l
+    go true = row_none at 1 _ l
+    go false = refl
 
-  pub next_turn : {l' : List ℕ} → x < width → l' ≡ sets l (from + x * size) (content x) → Turn from size width content l₀ l' (x + 1)
-  next_turn {l'} h e = record {
-    columns = row_more from size content x l₀ l l' t.columns e;
-    long = ap length e ∙ length-sets l (from + x * size) (content x) ∙ t.long;
-    within = omega arith;
-  }
+pub stencils_next : (f : ℕ) (packed : List ℕ) (from at x : ℕ) (l₀ l l' : List ℕ) → l ≡ stencil_row f packed from at x l₀ → has_stencil f ≡ true → l' ≡ sets l (at + x * 1) (stencil_bytes f packed (from + x * bytes_of f))
+    → l' ≡ stencil_row f packed from at (x + 1) l₀
+unfolding stencil_row
+stencils_next f packed from at x l₀ l l' e s e' = go (has_stencil f) s e
+  where
+    go : (t : Bool) → t ≡ true → l ≡ pick t (written_row at 1 x (λ x. stencil_bytes f packed (from + x * bytes_of f)) l₀) l₀ → l' ≡ pick t (written_row at 1 (x + 1) (λ x. stencil_bytes f packed (from + x * bytes_of f)) l₀) l₀
+    go true s e = row_more at 1 _ x l₀ l l' e e'
+    go false s e = absurd (true≢false (sym s))
 
-  pub last_turn : width ≤ x → l ≡ written_row from size width content l₀
-  last_turn h = t.columns ∙ ap (λ n. written_row from size n content l₀) (le_antisymm t.within h)
+pub stencils_kept : (f : ℕ) (packed : List ℕ) (from at x : ℕ) (l₀ l l' : List ℕ) → l ≡ stencil_row f packed from at x l₀ → has_stencil f ≡ false → l' ≡ l → l' ≡ stencil_row f packed from at (x + 1) l₀
+unfolding stencil_row
+stencils_kept f packed from at x l₀ l l' e s e' = go (has_stencil f) s e
+  where
+    go : (t : Bool) → t ≡ false → l ≡ pick t (written_row at 1 x (λ x. stencil_bytes f packed (from + x * bytes_of f)) l₀) l₀ → l' ≡ pick t (written_row at 1 (x + 1) (λ x. stencil_bytes f packed (from + x * bytes_of f)) l₀) l₀
+    go true s e = absurd (true≢false s)
+    go false s e = e' ∙ e
+
+pub packed_begun : (f : ℕ) (depth stencil : List ℕ) (from at to : ℕ) (l : List ℕ) → l ≡ packed_row f depth stencil from at to 0 l
+unfolding packed_row
+packed_begun f depth stencil from at to l = row_none to (bytes_of f) _ l
+
+pub packed_next : (f : ℕ) (depth stencil : List ℕ) (from at to x : ℕ) (l₀ l l' : List ℕ) → l ≡ packed_row f depth stencil from at to x l₀ → l' ≡ sets l (to + x * bytes_of f) (packed_bytes f depth stencil (from + x * 4) (at + x * 1))
+    → l' ≡ packed_row f depth stencil from at to (x + 1) l₀
+unfolding packed_row
+packed_next f depth stencil from at to x l₀ l l' e e' = row_more to (bytes_of f) _ x l₀ l l' e e'
 
 -- ---- unpacking
 -- the decoder is lent the part of the row that starts at the pixel
@@ -86,7 +105,11 @@ encoded_sized : (f : ℕ) (v : DepthStencil) → length (encoded f v) ≡ bytes_
 unfolding encoded
 encoded_sized f v = length_bytes (bytes_of f) (pixel_word f (code_for (max_code f) v.depth) v.stencil)
 
--- without a stencil it counts as 0
+-- the stencil that is packed, and without one 0
+pub stencil_read : (f : ℕ) (plane : List ℕ) (at x : ℕ) → has_stencil f ≡ true → get_or plane (at + x) 0 ≡ stencil_at f plane (at + x * 1)
+unfolding stencil_at
+stencil_read f plane at x e = ap (λ n. get_or plane (at + n) 0) (sym (mul-one x)) ∙ sym (ap (λ t. pick t (get_or plane (at + x * 1) 0) 0) e)
+
 pub no_stencil_read : (f : ℕ) (plane : List ℕ) (at : ℕ) → has_stencil f ≡ false → 0 ≡ stencil_at f plane at
 unfolding stencil_at
 no_stencil_read f plane at e = sym (ap (λ t. pick t (get_or plane at 0) 0) e)
@@ -140,7 +163,3 @@ pub packed_more : (f : ℕ) (depth stencil : List ℕ) (pitch depth_pitch stenci
 unfolding packed_row
 packed_more f depth stencil pitch depth_pitch stencil_pitch width y l₀ l l' e e' =
     rows_more pitch (bytes_of f) width (λ x y. packed_bytes f depth stencil (place depth_pitch 4 x y) (place stencil_pitch 1 x y)) y l₀ l l' e e'
-
--- a row of a plane that fits 64 bits begins below them
-pub row_begins : (pitch height y : ℕ) → y < height → pitch * height < 18446744073709551616 → y * pitch < 18446744073709551616
-row_begins pitch height y h f = omega (arith, mul-le-mul_right {m = y} {n = height} pitch (le_of_lt h), mul_comm pitch height)

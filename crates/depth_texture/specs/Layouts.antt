@@ -1,12 +1,12 @@
 -- Plane layouts: how `PlaneLayout::new` makes one, what it refuses, and what holds of one that stands.
 -- Assumes nothing.
-use Rattle.std.specs.Prelude.{◌≡◌, Bool, not, ◌&&◌, ◌||◌, ℕ, ◌*◌, ◌^◌, ◌≤◌, ◌<◌, max, leb, ltb, eqb}
+use Rattle.std.specs.Prelude.{◌≡◌, Result, Ok, Err, Bool, not, ◌&&◌, ◌||◌, ℕ, ◌*◌, ◌^◌, ◌≤◌, ◌<◌, max, leb, ltb, eqb}
 use Rattle.words.specs.Tests.{pick}
 use Rattle.words.specs.Iterate.{all}
 use Rattle.words.specs.Multiples.{raised, Raised}
 use Rattle.depth_texture.specs.declared.PlaneLayout.{PlaneLayout}
-use Rattle.depth_texture.specs.declared.PlaneLayoutAnswer.{PlaneLayoutAnswer}
-use Rattle.depth_texture.specs.declared.PlaneLayoutAnswer.TheVariants.{Layout, ZeroSize, NoPowerOfTwo, Over64Bits}
+use Rattle.depth_texture.specs.declared.PlaneLayoutRefusal.{PlaneLayoutRefusal}
+use Rattle.depth_texture.specs.declared.PlaneLayoutRefusal.TheVariants.{ZeroSize, NoPowerOfTwo, Over64Bits}
 
 -- one more than the largest number of 64 bits
 abbrev pub limit : ℕ
@@ -36,30 +36,32 @@ is_empty l = eqb l.width 0 || eqb l.height 0
 unfoldable pub planes_fit : PlaneLayout → Bool
 planes_fit l = ltb (l.depth_pitch * l.height) limit && ltb (l.stencil_pitch * l.height) limit
 
--- document 01's number for each answer
-abbrev pub answer_number : PlaneLayoutAnswer → ℕ
-answer_number (Layout l) = 0
-answer_number ZeroSize = 6
-answer_number NoPowerOfTwo = 7
-answer_number Over64Bits = 8
+-- document 01's number for each refusal
+abbrev pub layout_refusal_number : PlaneLayoutRefusal → ℕ
+layout_refusal_number ZeroSize = 6
+layout_refusal_number NoPowerOfTwo = 7
+layout_refusal_number Over64Bits = 8
+
+-- and for an answer: 0 for a layout
+abbrev pub answer_number : Result PlaneLayout PlaneLayoutRefusal → ℕ
+answer_number (Ok l) = 0
+answer_number (Err r) = layout_refusal_number r
 
 -- document 01's number for a layout that cannot be made, the lowest that applies, and 0 where it can
 unfoldable pub layout_refusal : (width height alignment : ℕ) → ℕ
 layout_refusal w h a =
-    pick (is_empty (aligned w h a)) (answer_number ZeroSize)
-    (pick (not (is_power_of_two (max 4 a))) (answer_number NoPowerOfTwo)
-    (pick (not (planes_fit (aligned w h a))) (answer_number Over64Bits) 0))
+    pick (is_empty (aligned w h a)) (layout_refusal_number ZeroSize)
+    (pick (not (is_power_of_two (max 4 a))) (layout_refusal_number NoPowerOfTwo)
+    (pick (not (planes_fit (aligned w h a))) (layout_refusal_number Over64Bits) 0))
 
 -- what is handed back: four zeros in a refusal
 unfoldable pub layout_for : (width height alignment : ℕ) → PlaneLayout
 layout_for w h a = pick (eqb (layout_refusal w h a) 0) (aligned w h a) (layout 0 0 0 0)
 
 -- the four values that each answer hands back
-abbrev pub answer_layout : PlaneLayoutAnswer → PlaneLayout
-answer_layout (Layout l) = l
-answer_layout ZeroSize = layout 0 0 0 0
-answer_layout NoPowerOfTwo = layout 0 0 0 0
-answer_layout Over64Bits = layout 0 0 0 0
+abbrev pub answer_layout : Result PlaneLayout PlaneLayoutRefusal → PlaneLayout
+answer_layout (Ok l) = l
+answer_layout (Err r) = layout 0 0 0 0
 
 -- a layout that stands: it has a pixel, its pitches hold their rows, and its planes fit 64 bits
 pub record Stands (l : PlaneLayout) : Type 0 where

@@ -1,4 +1,4 @@
--- Powers of two, by a test and by counting set bits, and raising to a multiple.
+-- Powers of two, by a test and by counting set bits.
 -- Assumes nothing.
 use Rattle.std.specs.Prelude.{◌≡◌, refl, Bool, true, false, not, ℕ, zero, suc, ◌+◌, ◌*◌, ◌/◌, ◌%◌, ◌^◌, ◌<◌, eqb}
 use Rattle.std.proofs.Common.{sym, ap, ◌∙◌, subst, inl, inr, pow-suc, arith, pow_pos, eq-eqb, eqb-true, ne_eqb}

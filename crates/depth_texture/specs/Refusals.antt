@@ -1,21 +1,21 @@
 -- The refusals by their tests: which number each outcome of the tests gives, and what holds of a layout that stands and of a call that is accepted.
 -- Assumes nothing.
-use Rattle.std.specs.Prelude.{◌≡◌, Bool, not, ◌&&◌, ◌||◌, ltb, eqb}
+use Rattle.std.specs.Prelude.{◌≡◌, Result, Ok, Err, Bool, not, ◌&&◌, ◌||◌, ltb, eqb}
 use Rattle.std.proofs.Math.Path.{refl, sym, ap, ap₂, subst}
 use Rattle.std.proofs.Common.{◌∙◌, mul_comm}
 use Rattle.std.proofs.Math.Bool.{true, false}
-use Prim.Native.Nat.{ℕ, suc, ◌+◌, ◌-◌, ◌*◌, ◌<◌, max}
+use Prim.Native.Nat.{ℕ, ◌+◌, ◌-◌, ◌*◌, ◌≤◌, ◌<◌, max}
 use native.Mathlib.Omega.{arith}
 use Rattle.std.proofs.Math.Dec.{leb}
 use borrow.Author.Tests.{ltb-true, lt-ltb, le-leb, leb-true, eqb-false, eq-eqb, ne_eqb}
-use Rattle.words.specs.Tests.{pick, and_left, and_right, leb_same}
+use Rattle.words.specs.Tests.{pick, and_left, and_right}
 use Rattle.depth_texture.specs.declared.PlaneLayout.{PlaneLayout}
 use Rattle.formats.specs.Table.{bytes_of}
 use Rattle.words.specs.Multiples.{raised, Raised, raised_is}
 use Rattle.depth_pixels.specs.Pixels.{is_packed_depth, has_stencil}
 use Rattle.depth_pixels.specs.Pictures.{RowIn, rows_in, plane_in}
-use Rattle.depth_texture.specs.declared.PlaneLayoutAnswer.{PlaneLayoutAnswer}
-use Rattle.depth_texture.specs.declared.PlaneLayoutAnswer.TheVariants.{Layout, ZeroSize, NoPowerOfTwo, Over64Bits}
+use Rattle.depth_texture.specs.declared.PlaneLayoutRefusal.{PlaneLayoutRefusal}
+use Rattle.depth_texture.specs.declared.PlaneLayoutRefusal.TheVariants.{ZeroSize, NoPowerOfTwo, Over64Bits}
 use Rattle.depth_texture.specs.Layouts.{limit, layout, aligned, is_power_of_two, is_empty, planes_fit, layout_refusal, layout_for, answer_number, answer_layout, Stands, stands, Pitches}
 use Rattle.depth_texture.specs.Replies.{row_bytes, packed_holds, plane_holds, stencil_holds, refusal_of, Accepts}
 
@@ -66,101 +66,94 @@ stands_tested l s =
       lt-ltb (l.stencil_pitch * l.height) limit s.stencil_fits,
     ) refl
 
--- a test that agrees with `Stands` is `stands`
-pub stands_is : (l : PlaneLayout) (b : Bool) → (b ≡ true → Stands l) → (b ≡ false → Stands l → ⊥) → b ≡ stands l
-stands_is l true h k = sym (stands_tested l (h refl))
-stands_is l false h k = sym (go (stands l) refl)
-  where
-    go : (t : Bool) → stands l ≡ t → t ≡ false
-    go true e = absurd (k refl (stands_holds l e))
-    go false e = refl
+-- where there is a pixel and the pitches hold their rows it is whether the planes fit
+pub rows_stand : (l : PlaneLayout) → 0 < l.width → 0 < l.height → 4 * l.width ≤ l.depth_pitch → l.width ≤ l.stencil_pitch → planes_fit l ≡ stands l
+unfolding stands is_empty
+rows_stand l w h d s =
+    rw (
+      ne_eqb l.width 0 (λ e. omega (arith, w)),
+      ne_eqb l.height 0 (λ e. omega (arith, h)),
+      le-leb (4 * l.width) l.depth_pitch d,
+      le-leb l.width l.stencil_pitch s,
+    ) refl
 
 pub not_standing : (l : PlaneLayout) → (Stands l → ⊥) → false ≡ stands l
-not_standing l k = stands_is l false (λ e. let z : ◌≡◌ {A = ℕ} 0 1 = cc in absurd (omega arith)) (λ e. k)
+not_standing l k = sym (go (stands l) refl)
+  where
+    go : (t : Bool) → stands l ≡ t → t ≡ false
+    go true e = absurd (k (stands_holds l e))
+    go false e = refl
 
 -- ---- a layout that is asked for
 -- what `PlaneLayout::new` owes of its answer
-abbrev pub Answered : (width height alignment : ℕ) → PlaneLayoutAnswer → Type 0
-Answered w h a r = (answer_number r ≡ layout_refusal w h a) × ((answer_layout r ≡ layout_for w h a) × ((answer_number r ≡ 0 → Stands (answer_layout r)) × (answer_number r ≡ 0 → Pitches w a (answer_layout r))))
+abbrev pub Answered : (width height alignment : ℕ) → Result PlaneLayout PlaneLayoutRefusal → Type 0
+Answered w h a r = record {
+  reply : answer_number r ≡ layout_refusal w h a;
+  layout : answer_layout r ≡ layout_for w h a;
+  stands : answer_number r ≡ 0 → Stands (answer_layout r);
+  pitches : answer_number r ≡ 0 → Pitches w a (answer_layout r);
+}
 
 -- a refusal is a number above 0 with four zeros
-refused : (w h a : ℕ) (r : PlaneLayoutAnswer) → answer_number r ≡ layout_refusal w h a → 0 < answer_number r → answer_layout r ≡ layout 0 0 0 0 → Answered w h a r
+refused : (w h a : ℕ) (r : Result PlaneLayout PlaneLayoutRefusal) → answer_number r ≡ layout_refusal w h a → 0 < answer_number r → answer_layout r ≡ layout 0 0 0 0 → Answered w h a r
 unfolding layout_for
-refused w h a r e p z = (
-  e,
-  (
-    z ∙ sym (ap (λ t. pick t (aligned w h a) (layout 0 0 0 0)) (ap (λ n. eqb n 0) (sym e) ∙ ne_eqb (answer_number r) 0 (λ q. omega arith))),
-    (λ q. absurd (omega arith), λ q. absurd (omega arith)),
-  ),
-)
-
--- below the limit is at most the largest number of 64 bits
-below_limit : (n : ℕ) → ltb n limit ≡ leb n 18446744073709551615
-below_limit n = leb_same (suc n) limit n 18446744073709551615 (λ h. omega arith) (λ h. omega arith)
+refused w h a r e p z = record {
+  reply = e;
+  layout = z ∙ sym (ap (λ t. pick t (aligned w h a) (layout 0 0 0 0)) (ap (λ n. eqb n 0) (sym e) ∙ ne_eqb (answer_number r) 0 (λ q. omega arith)));
+  stands = λ q. absurd (omega arith);
+  pitches = λ q. absurd (omega arith);
+}
 
 module _ (w h a : ℕ) where
-  pub zero_width : w ≡ 0 → Answered w h a ZeroSize
+  pub zero_width : w ≡ 0 → Answered w h a (Err ZeroSize)
   unfolding layout_refusal is_empty aligned
-  zero_width e = refused w h a ZeroSize (rw (eq-eqb w 0 e) refl) (omega arith) refl
+  zero_width e = refused w h a (Err ZeroSize) (rw (eq-eqb w 0 e) refl) (omega arith) refl
 
-  pub zero_height : h ≡ 0 → Answered w h a ZeroSize
+  pub zero_height : h ≡ 0 → Answered w h a (Err ZeroSize)
   unfolding layout_refusal is_empty aligned
-  zero_height e = refused w h a ZeroSize (rw (eq-eqb h 0 e, or_true (eqb w 0)) refl) (omega arith) refl
+  zero_height e = refused w h a (Err ZeroSize) (rw (eq-eqb h 0 e, or_true (eqb w 0)) refl) (omega arith) refl
     where
       or_true : (b : Bool) → (b || true) ≡ true
       or_true true = refl
       or_true false = refl
 
   module _ (wide : w ≡ 0 → ⊥) (high : h ≡ 0 → ⊥) where
-    pub no_power : is_power_of_two (max 4 a) ≡ false → Answered w h a NoPowerOfTwo
+    pub no_power : is_power_of_two (max 4 a) ≡ false → Answered w h a (Err NoPowerOfTwo)
     unfolding layout_refusal is_empty aligned
-    no_power e = refused w h a NoPowerOfTwo (rw (ne_eqb w 0 wide, ne_eqb h 0 high, e) refl) (omega arith) refl
+    no_power e = refused w h a (Err NoPowerOfTwo) (rw (ne_eqb w 0 wide, ne_eqb h 0 high, e) refl) (omega arith) refl
 
-    module _ (power : is_power_of_two (max 4 a) ≡ true) where
-      over : planes_fit (aligned w h a) ≡ false → Answered w h a Over64Bits
+    -- the pitches as they were computed, and whether their planes fit
+    module _ (power : is_power_of_two (max 4 a) ≡ true) (d s : ℕ) (depth_is : d ≡ raised (w * 4) (max 4 a)) (stencil-is : s ≡ raised w (max 4 a)) where
+      is_aligned : aligned w h a ≡ layout w h d s
+      unfolding aligned
+      is_aligned = sym (ap₂ (layout w h) (depth_is ∙ ap (λ n. raised n (max 4 a)) (mul_comm w 4)) stencil-is)
+
+      pub over : planes_fit (layout w h d s) ≡ false → Answered w h a (Err Over64Bits)
       unfolding layout_refusal is_empty aligned
-      over e = refused w h a Over64Bits (rw (ne_eqb w 0 wide, ne_eqb h 0 high, power, e) refl) (omega arith) refl
+      over e = refused w h a (Err Over64Bits) (rw (ne_eqb w 0 wide, ne_eqb h 0 high, power, ap planes_fit is_aligned ∙ e) refl) (omega arith) refl
 
-      -- the pitches as they were computed, and whether their planes fit
-      module _ (d s : ℕ) (depth_is : d ≡ raised (w * 4) (max 4 a)) (stencil-is : s ≡ raised w (max 4 a)) where
-        is_aligned : aligned w h a ≡ layout w h d s
-        unfolding aligned
-        is_aligned = sym (ap₂ (layout w h) (depth_is ∙ ap (λ n. raised n (max 4 a)) (mul_comm w 4)) stencil-is)
-
-        fit_as : (p q : Bool) → leb (d * h) 18446744073709551615 ≡ p → leb (s * h) 18446744073709551615 ≡ q → planes_fit (aligned w h a) ≡ (p && q)
-        unfolding planes_fit
-        fit_as p q e f = ap planes_fit is_aligned ∙ ap₂ (λ p q. p && q) (below_limit (d * h) ∙ e) (below_limit (s * h) ∙ f)
-
-        pub depth_over : leb (d * h) 18446744073709551615 ≡ false → Answered w h a Over64Bits
-        depth_over e = over (fit_as false (leb (s * h) 18446744073709551615) e refl)
-
-        pub stencil_over : leb (d * h) 18446744073709551615 ≡ true → leb (s * h) 18446744073709551615 ≡ false → Answered w h a Over64Bits
-        stencil_over e f = over (fit_as true false e f)
-
-        pub made : leb (d * h) 18446744073709551615 ≡ true → leb (s * h) 18446744073709551615 ≡ true → Answered w h a (Layout (layout w h d s))
-        unfolding layout_refusal layout_for is_empty aligned
-        made e f =
-            let z : layout_refusal w h a ≡ 0 = rw (ne_eqb w 0 wide, ne_eqb h 0 high, power, fit_as true true e f) refl in
-            let unit : 0 < max 4 a = omega arith in (
-              sym z,
-              (
-                sym (ap (λ n. pick (eqb n 0) (aligned w h a) (layout 0 0 0 0)) z ∙ is_aligned),
-                (
-                  λ q. record {
-                    wide = omega (arith, wide);
-                    high = omega (arith, high);
-                    depth_row_lem = omega (arith, depth_is, (raised_is (w * 4) (max 4 a) unit).enough);
-                    stencil_row_lem = omega (arith, stencil-is, (raised_is w (max 4 a) unit).enough);
-                    depth_fits = omega (arith, leb-true (d * h) 18446744073709551615 e);
-                    stencil_fits = omega (arith, leb-true (s * h) 18446744073709551615 f);
-                  },
-                  λ q. record {
-                    depth = subst (Raised (4 * w) (max 4 a)) (sym (depth_is ∙ ap (λ n. raised n (max 4 a)) (mul_comm w 4))) (raised_is (4 * w) (max 4 a) unit);
-                    stencil = subst (Raised w (max 4 a)) (sym stencil-is) (raised_is w (max 4 a) unit);
-                  },
-                ),
-              ),
-            )
+      pub made : planes_fit (layout w h d s) ≡ true → Answered w h a (Ok (layout w h d s))
+      unfolding layout_refusal layout_for is_empty aligned planes_fit
+      made e =
+          let z : layout_refusal w h a ≡ 0 = rw (ne_eqb w 0 wide, ne_eqb h 0 high, power, ap planes_fit is_aligned ∙ e) refl in
+          let unit : 0 < max 4 a = omega arith in
+          let p = ltb (d * h) limit in
+          let q = ltb (s * h) limit in record {
+            reply = sym z;
+            layout = sym (ap (λ n. pick (eqb n 0) (aligned w h a) (layout 0 0 0 0)) z ∙ is_aligned);
+            stands = λ n. record {
+              wide = omega (arith, wide);
+              high = omega (arith, high);
+              depth_row_lem = omega (arith, depth_is, (raised_is (w * 4) (max 4 a) unit).enough);
+              stencil_row_lem = omega (arith, stencil-is, (raised_is w (max 4 a) unit).enough);
+              depth_fits = ltb-true (d * h) limit (and_left p q e);
+              stencil_fits = ltb-true (s * h) limit (and_right p q e);
+            };
+            pitches = λ n. record {
+              depth = subst (Raised (4 * w) (max 4 a)) (sym (depth_is ∙ ap (λ n. raised n (max 4 a)) (mul_comm w 4))) (raised_is (4 * w) (max 4 a) unit);
+              stencil = subst (Raised w (max 4 a)) (sym stencil-is) (raised_is w (max 4 a) unit);
+            };
+          }
 
 -- ---- the numbers
 -- the tests that leave no number

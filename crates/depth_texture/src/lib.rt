@@ -6,13 +6,12 @@
 // Ported from depth_texture.rs of athei/mtld3d (an altered version, see NOTICE).
 #![tactic(auto)]
 
-ghost use Rattle.std.specs.Prelude.{◌≡◌, ◌+◌, ◌*◌, ◌<◌, max, leb, eqb};
-ghost use Rattle.words.specs.Multiples.{raised};
+ghost use Rattle.std.specs.Prelude.{◌≡◌, ◌*◌, leb};
 ghost use Rattle.depth_pixels.specs.Pixels.{format_code};
-ghost use Rattle.depth_texture.specs.Layouts.{limit, is_power_of_two, answer_number, answer_layout, layout_refusal, layout_for, Stands, stands, Pitches};
-ghost use Rattle.depth_texture.specs.Replies.{reply_number, refusal_of, Checked, packed_holds, stencil_holds};
+ghost use Rattle.depth_texture.specs.Layouts.{planes_fit, layout_refusal_number, answer_number, answer_layout, layout_refusal, layout_for, Stands, stands, Pitches};
+ghost use Rattle.depth_texture.specs.Replies.{refusal_number, refusal_of, Checked, packed_holds, stencil_holds};
 
-use depth_pixels::{PackedDepth, PackedDepthCode};
+use depth_pixels::PackedDepth;
 
 // Aligned rows of a depth plane and a stencil plane.
 #[derive(Clone, Copy)]
@@ -23,19 +22,30 @@ pub struct PlaneLayout {
     pub stencil_pitch: usize,
 }
 
-// A layout that was asked for, or why there is none: refusals 6, 7 and 8 of document 01.
-#[derive(Clone, Copy)]
-pub enum PlaneLayoutAnswer {
-    Layout(PlaneLayout),
+// Why there is no layout: refusals 6, 7 and 8 of document 01.
+#[derive(Clone, Copy, Debug, PartialEq, Eq)]
+pub enum PlaneLayoutRefusal {
     ZeroSize,
     NoPowerOfTwo,
     Over64Bits,
 }
 
-// How unpacking and packing reply: refusals 9 to 13 of document 01.
-#[derive(Clone, Copy)]
-pub enum DepthReply {
-    Accepted,
+impl From<PlaneLayoutRefusal> for u32 {
+    // Document 01's number of the refusal.
+    ghost from_gives = { λ refusal n. n ≡ layout_refusal_number refusal };
+
+    fn from(refusal: PlaneLayoutRefusal) -> u32 {
+        match refusal {
+            PlaneLayoutRefusal::ZeroSize => 6,
+            PlaneLayoutRefusal::NoPowerOfTwo => 7,
+            PlaneLayoutRefusal::Over64Bits => 8,
+        }
+    }
+}
+
+// Why unpacking and packing are refused: refusals 9 to 13 of document 01.
+#[derive(Clone, Copy, Debug, PartialEq, Eq)]
+pub enum DepthRefusal {
     NotPackedDepth,
     BadLayout,
     ShortPacked,
@@ -43,122 +53,74 @@ pub enum DepthReply {
     ShortStencil,
 }
 
-impl DepthReply {
-    // Document 01's number of the reply.
-    pub fn number(self) -> u32
-        ensures { result ≡ reply_number self }
-    {
-        match self {
-            DepthReply::Accepted => 0,
-            DepthReply::NotPackedDepth => 9,
-            DepthReply::BadLayout => 10,
-            DepthReply::ShortPacked => 11,
-            DepthReply::ShortDepth => 12,
-            DepthReply::ShortStencil => 13,
+impl From<DepthRefusal> for u32 {
+    // Document 01's number of the refusal.
+    ghost from_gives = { λ refusal n. n ≡ refusal_number refusal };
+
+    fn from(refusal: DepthRefusal) -> u32 {
+        match refusal {
+            DepthRefusal::NotPackedDepth => 9,
+            DepthRefusal::BadLayout => 10,
+            DepthRefusal::ShortPacked => 11,
+            DepthRefusal::ShortDepth => 12,
+            DepthRefusal::ShortStencil => 13,
         }
     }
-
-    // Whether the reply is no refusal.
-    pub fn is_accepted(self) -> bool
-        ensures { result ≡ eqb (reply_number self) 0 }
-    {
-        self.number() == 0
-    }
-}
-
-// What the tests before a call found: the format of an accepted one, or the refusal.
-#[derive(Clone, Copy)]
-pub enum DepthCheck {
-    Depth(PackedDepth),
-    Refused(DepthReply),
 }
 
 // Whether a * b is at most room, where a * b may have more than 64 bits.
 fn fits(a: usize, b: usize, room: usize) -> bool
     ensures { result ≡ leb (a * b) room }
 {
-    if b == 0 {
-        return true;
-    }
-    a <= room / b
-}
-
-// Whether a is a power of two.
-fn is_power_of_two(a: u32) -> bool
-    ensures { result ≡ is_power_of_two a }
-{
-    u32::count_ones(a) == 1
-}
-
-// An alignment below 4 becomes 4.
-fn at_least_4(alignment: u32) -> u32
-    ensures { result ≡ max 4 alignment }
-{
-    if alignment < 4 { 4 } else { alignment }
-}
-
-// n raised to a multiple of alignment.
-fn raise(n: usize, alignment: usize) -> usize
-    requires { (0 < alignment) × (n + alignment < limit) }
-    ensures { result ≡ raised n alignment }
-{
-    (n + (alignment - 1)) / alignment * alignment
+    a.checked_mul(b).is_some_and(|n| n <= room)
 }
 
 impl PlaneLayout {
     // The layout for a size and an alignment; an alignment below 4 becomes 4.
-    pub fn new(width: u32, height: u32, alignment: u32) -> PlaneLayoutAnswer
+    pub fn new(width: u32, height: u32, alignment: u32) -> Result<PlaneLayout, PlaneLayoutRefusal>
         ensures reply { answer_number result ≡ layout_refusal width height alignment }
         ensures layout { answer_layout result ≡ layout_for width height alignment }
         ensures stands { answer_number result ≡ 0 → Stands (answer_layout result) }
         ensures pitches { answer_number result ≡ 0 → Pitches width alignment (answer_layout result) }
     {
-        if width == 0 {
-            return PlaneLayoutAnswer::ZeroSize;
+        if width == 0 || height == 0 {
+            return Err(PlaneLayoutRefusal::ZeroSize);
         }
-        if height == 0 {
-            return PlaneLayoutAnswer::ZeroSize;
+        let unit = alignment.max(4);
+        if !unit.is_power_of_two() {
+            return Err(PlaneLayoutRefusal::NoPowerOfTwo);
         }
-        let unit = at_least_4(alignment);
-        if !is_power_of_two(unit) {
-            return PlaneLayoutAnswer::NoPowerOfTwo;
-        }
-        let depth_pitch = raise((width as usize) * 4, unit as usize);
-        let stencil_pitch = raise(width as usize, unit as usize);
-        if !fits(depth_pitch, height as usize, 0xffff_ffff_ffff_ffff) {
-            return PlaneLayoutAnswer::Over64Bits;
-        }
-        if !fits(stencil_pitch, height as usize, 0xffff_ffff_ffff_ffff) {
-            return PlaneLayoutAnswer::Over64Bits;
-        }
-        PlaneLayoutAnswer::Layout(PlaneLayout {
+        let depth_pitch = ((width as usize) * 4).next_multiple_of(unit as usize);
+        let stencil_pitch = (width as usize).next_multiple_of(unit as usize);
+        let layout = PlaneLayout {
             width: width as usize,
             height: height as usize,
             depth_pitch,
             stencil_pitch,
-        })
+        };
+        if !layout.planes_fit() {
+            return Err(PlaneLayoutRefusal::Over64Bits);
+        }
+        Ok(layout)
+    }
+
+    // Whether each plane's pitch times the height is a number of 64 bits.
+    fn planes_fit(self) -> bool
+        ensures { result ≡ planes_fit self }
+    {
+        fits(self.depth_pitch, self.height, usize::MAX)
+            && fits(self.stencil_pitch, self.height, usize::MAX)
     }
 
     // Whether the layout stands: it has a pixel, its pitches hold their rows, and its planes fit 64 bits.
     fn is_sound(self) -> bool
         ensures { result ≡ stands self }
     {
-        if self.width == 0 {
-            return false;
-        }
-        if self.height == 0 {
-            return false;
-        }
-        if self.depth_pitch / 4 < self.width {
-            return false;
-        }
-        if self.stencil_pitch < self.width {
-            return false;
-        }
-        if !fits(self.depth_pitch, self.height, 0xffff_ffff_ffff_ffff) {
-            return false;
-        }
-        fits(self.stencil_pitch, self.height, 0xffff_ffff_ffff_ffff)
+        self.width > 0
+            && self.height > 0
+            && self.width <= self.depth_pitch / 4
+            && self.width <= self.stencil_pitch
+            && self.planes_fit()
     }
 
     // Whether the packed pitch holds a row, and `len` bytes every row.
@@ -167,24 +129,15 @@ impl PlaneLayout {
         ensures { result ≡ packed_holds (format_code kind) self len pitch }
     {
         let row = self.width * kind.bytes_per_pixel();
-        if pitch < row {
-            return false;
-        }
-        if len < row {
-            return false;
-        }
-        fits(self.height - 1, pitch, len - row)
+        row <= pitch && row <= len && fits(self.height - 1, pitch, len - row)
     }
 
     // Whether `len` bytes hold the stencil plane, where the format has one.
+    #[tactic(auto, unfolding(crate::specs::Replies::stencil_holds))]
     fn stencil_holds(self, kind: PackedDepth, len: usize) -> bool
         ensures { result ≡ stencil_holds (format_code kind) self len }
     {
-        if kind.has_stencil() {
-            fits(self.stencil_pitch, self.height, len)
-        } else {
-            true
-        }
+        !kind.has_stencil() || fits(self.stencil_pitch, self.height, len)
     }
 
     // The tests of the layout and of the buffers' lengths, for a packed depth format.
@@ -195,25 +148,27 @@ impl PlaneLayout {
         packed_pitch: usize,
         depth: usize,
         stencil: usize,
-    ) -> DepthCheck
+    ) -> Result<PackedDepth, DepthRefusal>
         ensures { Checked (format_code kind) (refusal_of (format_code kind) self packed packed_pitch depth stencil) result }
     {
         if !self.is_sound() {
-            return DepthCheck::Refused(DepthReply::BadLayout);
+            return Err(DepthRefusal::BadLayout);
         }
         if !self.packed_holds(kind, packed, packed_pitch) {
-            return DepthCheck::Refused(DepthReply::ShortPacked);
+            return Err(DepthRefusal::ShortPacked);
         }
         if !fits(self.depth_pitch, self.height, depth) {
-            return DepthCheck::Refused(DepthReply::ShortDepth);
+            return Err(DepthRefusal::ShortDepth);
         }
         if !self.stencil_holds(kind, stencil) {
-            return DepthCheck::Refused(DepthReply::ShortStencil);
+            return Err(DepthRefusal::ShortStencil);
         }
-        DepthCheck::Depth(kind)
+        Ok(kind)
     }
 
+    // The format is a number here, as the C interface hands it over.
     // The tests before unpacking and packing, from the lengths of the packed buffer and the two planes.
+    #[tactic(auto, using(crate::specs::Refusals::refused_9))]
     pub fn check(
         self,
         format: u32,
@@ -221,18 +176,10 @@ impl PlaneLayout {
         packed_pitch: usize,
         depth: usize,
         stencil: usize,
-    ) -> DepthCheck
+    ) -> Result<PackedDepth, DepthRefusal>
         ensures { Checked format (refusal_of format self packed packed_pitch depth stencil) result }
     {
-        match PackedDepth::from_d3d(format) {
-            PackedDepthCode::Other => DepthCheck::Refused(DepthReply::NotPackedDepth),
-            PackedDepthCode::Depth(kind) => self.check_buffers(
-                kind,
-                packed,
-                packed_pitch,
-                depth,
-                stencil,
-            ),
-        }
+        let kind = PackedDepth::from_d3d(format).ok_or(DepthRefusal::NotPackedDepth)?;
+        self.check_buffers(kind, packed, packed_pitch, depth, stencil)
     }
 }

@@ -6,3 +6,4 @@ pub mod Classes
 pub mod Listed
 pub mod Packing
 pub mod Numbers
+pub mod Formats

@@ -6,7 +6,8 @@
 ghost use Rattle.std.specs.Prelude.{◌≡◌, ◌≤◌};
 ghost use Rattle.formats.specs.Table.{bytes_of};
 ghost use Rattle.words.specs.Multiples.{Raised};
-ghost use Rattle.formats.specs.Classes.{is_convertible_rgb, is_packed_yuv, is_planar_yuv, is_code_source, is_argb_source, is_lane_source, linear_row_pitch};
+ghost use Rattle.formats.specs.Formats.{rgb_code, code_source_code, lane_source_code, packed_yuv_code, planar_yuv_code, yuv_code, source_code, Found, is_source};
+ghost use Rattle.formats.specs.Classes.{is_convertible_rgb, is_packed_yuv, is_planar_yuv, is_code_source, is_argb_source, is_lane_source, is_yuv, linear_row_pitch};
 
 pub const D3DFMT_R8G8B8: u32 = 20;
 
@@ -79,81 +80,49 @@ pub const D3DFMT_NV12: u32 = 0x3231564e;
 // The largest width and height of a texture.
 pub const MAX_TEXTURE_DIM: u32 = 16384;
 
+// ---- codes: the C interface hands them over as numbers, and any number has its answer. The classes are one call each, under a
+// definition of their own.
+
 // Whether the converter decodes and encodes a format: its channels are unsigned and at most eight bits wide.
 pub fn is_convertible_rgb(d3d_format: u32) -> bool
     ensures { result ≡ is_convertible_rgb d3d_format }
 {
-    match d3d_format {
-        D3DFMT_A8R8G8B8
-        | D3DFMT_X8R8G8B8
-        | D3DFMT_A8B8G8R8
-        | D3DFMT_X8B8G8R8
-        | D3DFMT_R8G8B8
-        | D3DFMT_R5G6B5
-        | D3DFMT_A1R5G5B5
-        | D3DFMT_X1R5G5B5
-        | D3DFMT_A4R4G4B4
-        | D3DFMT_L8
-        | D3DFMT_A8
-        | D3DFMT_A8L8 => true,
-        _ => false,
-    }
+    RgbFormat::from_d3d(d3d_format).is_some()
 }
 
 // Whether a format is one of the two packed 4:2:2 YUV formats.
 pub fn is_packed_yuv(d3d_format: u32) -> bool
     ensures { result ≡ is_packed_yuv d3d_format }
 {
-    match d3d_format {
-        D3DFMT_YUY2 | D3DFMT_UYVY => true,
-        _ => false,
-    }
+    PackedYuv::from_d3d(d3d_format).is_some()
 }
 
 // Whether a format is one of the two planar 4:2:0 YUV formats.
 pub fn is_planar_yuv(d3d_format: u32) -> bool
     ensures { result ≡ is_planar_yuv d3d_format }
 {
-    match d3d_format {
-        D3DFMT_YV12 | D3DFMT_NV12 => true,
-        _ => false,
-    }
+    PlanarYuv::from_d3d(d3d_format).is_some()
 }
 
 // Whether a format converts into A8R8G8B8 alone and its channels are whole numbers.
 pub fn is_code_source(d3d_format: u32) -> bool
     ensures { result ≡ is_code_source d3d_format }
 {
-    match d3d_format {
-        D3DFMT_A16B16G16R16
-        | D3DFMT_A2R10G10B10
-        | D3DFMT_A2B10G10R10
-        | D3DFMT_G16R16
-        | D3DFMT_L16
-        | D3DFMT_V8U8
-        | D3DFMT_Q8W8V8U8 => true,
-        _ => false,
-    }
+    CodeSource::from_d3d(d3d_format).is_some()
 }
 
 // Whether a format converts into A8R8G8B8 alone.
 pub fn is_argb_source(d3d_format: u32) -> bool
     ensures { result ≡ is_argb_source d3d_format }
 {
-    if d3d_format == D3DFMT_A32B32G32R32F {
-        return true;
-    }
-    is_code_source(d3d_format)
+    d3d_format == D3DFMT_A32B32G32R32F || is_code_source(d3d_format)
 }
 
 // Whether a source's texels are words with lanes: it is an RGB format, or converts into A8R8G8B8 alone.
 pub fn is_lane_source(d3d_format: u32) -> bool
     ensures { result ≡ is_lane_source d3d_format }
 {
-    if is_convertible_rgb(d3d_format) {
-        return true;
-    }
-    is_argb_source(d3d_format)
+    LaneSource::from_d3d(d3d_format).is_some()
 }
 
 // The bytes of one texel for each code from 0 to that of A32B32G32R32F; 0 for a code that has no lanes.
@@ -181,5 +150,269 @@ pub fn linear_row_pitch(width: u32) -> u32
     ensures is { result ≡ linear_row_pitch width }
     ensures raised { Raised width 4 result }
 {
-    (width + 3) / 4 * 4
+    width.next_multiple_of(4)
+}
+
+// ---- formats as types, which all but the functions that answer the C interface take
+
+// A format that the converter decodes and encodes: its channels are unsigned and at most eight bits wide.
+#[derive(Clone, Copy, PartialEq, Eq)]
+pub enum RgbFormat {
+    R8G8B8,
+    A8R8G8B8,
+    X8R8G8B8,
+    R5G6B5,
+    X1R5G5B5,
+    A1R5G5B5,
+    A4R4G4B4,
+    A8,
+    A8B8G8R8,
+    X8B8G8R8,
+    L8,
+    A8L8,
+}
+
+impl RgbFormat {
+    // The format that has this code.
+    pub fn from_d3d(d3d_format: u32) -> Option<RgbFormat>
+        ensures { Found rgb_code is_convertible_rgb d3d_format result }
+    {
+        match d3d_format {
+            D3DFMT_R8G8B8 => Some(RgbFormat::R8G8B8),
+            D3DFMT_A8R8G8B8 => Some(RgbFormat::A8R8G8B8),
+            D3DFMT_X8R8G8B8 => Some(RgbFormat::X8R8G8B8),
+            D3DFMT_R5G6B5 => Some(RgbFormat::R5G6B5),
+            D3DFMT_X1R5G5B5 => Some(RgbFormat::X1R5G5B5),
+            D3DFMT_A1R5G5B5 => Some(RgbFormat::A1R5G5B5),
+            D3DFMT_A4R4G4B4 => Some(RgbFormat::A4R4G4B4),
+            D3DFMT_A8 => Some(RgbFormat::A8),
+            D3DFMT_A8B8G8R8 => Some(RgbFormat::A8B8G8R8),
+            D3DFMT_X8B8G8R8 => Some(RgbFormat::X8B8G8R8),
+            D3DFMT_L8 => Some(RgbFormat::L8),
+            D3DFMT_A8L8 => Some(RgbFormat::A8L8),
+            _ => None,
+        }
+    }
+
+    // The bytes of one texel.
+    pub fn bytes_per_texel(self) -> usize
+        ensures { result ≡ bytes_of (rgb_code self) }
+    {
+        match self {
+            RgbFormat::R8G8B8 => 3,
+            RgbFormat::A8R8G8B8 => 4,
+            RgbFormat::X8R8G8B8 => 4,
+            RgbFormat::R5G6B5 => 2,
+            RgbFormat::X1R5G5B5 => 2,
+            RgbFormat::A1R5G5B5 => 2,
+            RgbFormat::A4R4G4B4 => 2,
+            RgbFormat::A8 => 1,
+            RgbFormat::A8B8G8R8 => 4,
+            RgbFormat::X8B8G8R8 => 4,
+            RgbFormat::L8 => 1,
+            RgbFormat::A8L8 => 2,
+        }
+    }
+}
+
+// A format that converts into A8R8G8B8 alone and whose channels are whole numbers.
+#[derive(Clone, Copy, PartialEq, Eq)]
+pub enum CodeSource {
+    A16B16G16R16,
+    A2R10G10B10,
+    A2B10G10R10,
+    G16R16,
+    L16,
+    V8U8,
+    Q8W8V8U8,
+}
+
+impl CodeSource {
+    // The format that has this code.
+    pub fn from_d3d(d3d_format: u32) -> Option<CodeSource>
+        ensures { Found code_source_code is_code_source d3d_format result }
+    {
+        match d3d_format {
+            D3DFMT_A16B16G16R16 => Some(CodeSource::A16B16G16R16),
+            D3DFMT_A2R10G10B10 => Some(CodeSource::A2R10G10B10),
+            D3DFMT_A2B10G10R10 => Some(CodeSource::A2B10G10R10),
+            D3DFMT_G16R16 => Some(CodeSource::G16R16),
+            D3DFMT_L16 => Some(CodeSource::L16),
+            D3DFMT_V8U8 => Some(CodeSource::V8U8),
+            D3DFMT_Q8W8V8U8 => Some(CodeSource::Q8W8V8U8),
+            _ => None,
+        }
+    }
+
+    // The bytes of one texel.
+    pub fn bytes_per_texel(self) -> usize
+        ensures { result ≡ bytes_of (code_source_code self) }
+    {
+        match self {
+            CodeSource::A16B16G16R16 => 8,
+            CodeSource::A2R10G10B10 => 4,
+            CodeSource::A2B10G10R10 => 4,
+            CodeSource::G16R16 => 4,
+            CodeSource::L16 => 2,
+            CodeSource::V8U8 => 2,
+            CodeSource::Q8W8V8U8 => 4,
+        }
+    }
+}
+
+// A format whose texels are words with lanes: an RGB format, or one that converts into A8R8G8B8 alone.
+#[derive(Clone, Copy, PartialEq, Eq)]
+pub enum LaneSource {
+    Rgb(RgbFormat),
+    Codes(CodeSource),
+    // A32B32G32R32F.
+    Floats,
+}
+
+impl LaneSource {
+    // The format that has this code.
+    pub fn from_d3d(d3d_format: u32) -> Option<LaneSource>
+        ensures { Found lane_source_code is_lane_source d3d_format result }
+    {
+        if let Some(format) = RgbFormat::from_d3d(d3d_format) {
+            return Some(LaneSource::Rgb(format));
+        }
+        if let Some(format) = CodeSource::from_d3d(d3d_format) {
+            return Some(LaneSource::Codes(format));
+        }
+        if d3d_format == D3DFMT_A32B32G32R32F {
+            Some(LaneSource::Floats)
+        } else {
+            None
+        }
+    }
+
+    // The bytes of one texel.
+    pub fn bytes_per_texel(self) -> usize
+        ensures { result ≡ bytes_of (lane_source_code self) }
+    {
+        match self {
+            LaneSource::Rgb(format) => format.bytes_per_texel(),
+            LaneSource::Codes(format) => format.bytes_per_texel(),
+            LaneSource::Floats => 16,
+        }
+    }
+}
+
+// One of the two packed 4:2:2 YUV formats.
+#[derive(Clone, Copy)]
+pub enum PackedYuv {
+    YUY2,
+    UYVY,
+}
+
+// One of the two planar 4:2:0 YUV formats.
+#[derive(Clone, Copy)]
+pub enum PlanarYuv {
+    YV12,
+    NV12,
+}
+
+// A YUV format.
+#[derive(Clone, Copy)]
+pub enum YuvFormat {
+    Packed(PackedYuv),
+    Planar(PlanarYuv),
+}
+
+impl PackedYuv {
+    // The format that has this code.
+    pub fn from_d3d(d3d_format: u32) -> Option<PackedYuv>
+        ensures { Found packed_yuv_code is_packed_yuv d3d_format result }
+    {
+        match d3d_format {
+            D3DFMT_YUY2 => Some(PackedYuv::YUY2),
+            D3DFMT_UYVY => Some(PackedYuv::UYVY),
+            _ => None,
+        }
+    }
+}
+
+impl PlanarYuv {
+    // The format that has this code.
+    pub fn from_d3d(d3d_format: u32) -> Option<PlanarYuv>
+        ensures { Found planar_yuv_code is_planar_yuv d3d_format result }
+    {
+        match d3d_format {
+            D3DFMT_YV12 => Some(PlanarYuv::YV12),
+            D3DFMT_NV12 => Some(PlanarYuv::NV12),
+            _ => None,
+        }
+    }
+}
+
+impl YuvFormat {
+    // Whether it is a planar one.
+    pub fn is_planar(self) -> bool
+        ensures { result ≡ is_planar_yuv (yuv_code self) }
+    {
+        matches!(self, YuvFormat::Planar(_))
+    }
+
+    // The format that has this code.
+    pub fn from_d3d(d3d_format: u32) -> Option<YuvFormat>
+        ensures { Found yuv_code is_yuv d3d_format result }
+    {
+        if let Some(format) = PackedYuv::from_d3d(d3d_format) {
+            return Some(YuvFormat::Packed(format));
+        }
+        if let Some(format) = PlanarYuv::from_d3d(d3d_format) {
+            return Some(YuvFormat::Planar(format));
+        }
+        None
+    }
+}
+
+// A format that a conversion takes as its source.
+#[derive(Clone, Copy)]
+pub enum SourceFormat {
+    Lanes(LaneSource),
+    Yuv(YuvFormat),
+}
+
+impl SourceFormat {
+    // The format that has this code.
+    pub fn from_d3d(d3d_format: u32) -> Option<SourceFormat>
+        ensures { Found source_code is_source d3d_format result }
+    {
+        if let Some(format) = LaneSource::from_d3d(d3d_format) {
+            return Some(SourceFormat::Lanes(format));
+        }
+        if let Some(format) = YuvFormat::from_d3d(d3d_format) {
+            return Some(SourceFormat::Yuv(format));
+        }
+        None
+    }
+
+    // Whether it is a YUV format.
+    pub fn is_yuv(self) -> bool
+        ensures { result ≡ is_yuv (source_code self) }
+    {
+        matches!(self, SourceFormat::Yuv(_))
+    }
+
+    // Whether it is a planar YUV format.
+    pub fn is_planar(self) -> bool
+        ensures { result ≡ is_planar_yuv (source_code self) }
+    {
+        match self {
+            SourceFormat::Lanes(_) => false,
+            SourceFormat::Yuv(yuv) => yuv.is_planar(),
+        }
+    }
+
+    // The bytes of one texel; 0 for YUV, which has no texels of whole bytes of their own.
+    pub fn bytes_per_texel(self) -> usize
+        ensures { result ≡ bytes_of (source_code self) }
+    {
+        match self {
+            SourceFormat::Lanes(lanes) => lanes.bytes_per_texel(),
+            SourceFormat::Yuv(_) => 0,
+        }
+    }
 }

@@ -6,11 +6,13 @@
 
 ghost use Rattle.std.specs.Prelude.{◌≡◌, false, ℕ, ◌≤◌, ◌<◌, length};
 ghost use Rattle.formats.specs.Table.{bytes_of};
+ghost use Rattle.formats.specs.Formats.{rgb_code, source_code};
 ghost use Rattle.convert_reply.specs.Replies.{illegal_set, reply_with, convert_reply};
 ghost use Rattle.regions.specs.Regions.{row_written, slice_written, region_written, converted_with, converted_bytes, NearWith, NearSource, OwnWith, OthersKept};
 ghost use Rattle.regions.specs.Rows.{RowFits};
 
-use convert_reply::{ConvertRegion, ConvertReply};
+use convert_reply::{ConvertRefusal, ConvertRegion, Pair};
+use formats::SourceFormat;
 use yuv_sets::YuvSet;
 
 // A row of any source; only a row of YUV uses the set.
@@ -18,87 +20,89 @@ fn convert_row(
     numbers: YuvSet,
     block: &mut [u32],
     dst: &mut [u8],
-    dst_format: u32,
     to_size: usize,
     src: &[u8],
-    src_format: u32,
     from_size: usize,
+    pair: Pair,
     region: ConvertRegion,
     z: usize,
     row: usize,
 )
-    requires { (RowFits (length src.now) (length dst.old) src_format dst_format region z row) × (from_size ≡ bytes_of src_format) × (to_size ≡ bytes_of dst_format) × (64 ≤ length block.old) × (illegal_set src_format numbers ≡ false) }
-    ensures { dst.new ≡ row_written numbers src.now src_format dst_format region z row dst.old }
+    requires { (RowFits (length src.now) (length dst.old) (source_code pair.source) (rgb_code pair.target) region z row) × (from_size ≡ bytes_of (source_code pair.source)) × (to_size ≡ bytes_of (rgb_code pair.target)) × (64 ≤ length block.old) × (illegal_set (source_code pair.source) numbers ≡ false) }
+    ensures { dst.new ≡ row_written numbers src.now (source_code pair.source) (rgb_code pair.target) region z row dst.old }
 {
-    if formats::is_lane_source(src_format) {
-        block_rows::block_row(
-            block, dst, dst_format, to_size, src, src_format, from_size, region, z, row,
-        );
-        return;
+    match pair.source {
+        SourceFormat::Lanes(lanes) => block_rows::block_row(
+            block,
+            dst,
+            pair.target,
+            to_size,
+            src,
+            lanes,
+            from_size,
+            region,
+            z,
+            row,
+        ),
+        SourceFormat::Yuv(yuv) => yuv_rows::texel_row(
+            numbers,
+            dst,
+            pair.target,
+            to_size,
+            src,
+            yuv,
+            region,
+            z,
+            row,
+        ),
     }
-    yuv_rows::texel_row(
-        numbers, dst, dst_format, to_size, src, src_format, from_size, region, z, row,
-    );
 }
 
 fn convert_slice(
     numbers: YuvSet,
     block: &mut [u32],
     dst: &mut [u8],
-    dst_format: u32,
     to_size: usize,
     src: &[u8],
-    src_format: u32,
     from_size: usize,
+    pair: Pair,
     region: ConvertRegion,
     z: usize,
 )
-    requires { ((row : ℕ) → row < region.height → RowFits (length src.now) (length dst.old) src_format dst_format region z row) × (from_size ≡ bytes_of src_format) × (to_size ≡ bytes_of dst_format) × (64 ≤ length block.old) × (illegal_set src_format numbers ≡ false) }
-    ensures { dst.new ≡ slice_written numbers src.now src_format dst_format region z dst.old }
+    requires { ((row : ℕ) → row < region.height → RowFits (length src.now) (length dst.old) (source_code pair.source) (rgb_code pair.target) region z row) × (from_size ≡ bytes_of (source_code pair.source)) × (to_size ≡ bytes_of (rgb_code pair.target)) × (64 ≤ length block.old) × (illegal_set (source_code pair.source) numbers ≡ false) }
+    ensures { dst.new ≡ slice_written numbers src.now (source_code pair.source) (rgb_code pair.target) region z dst.old }
 {
-    let height = region.height as usize;
-    let mut row: usize = 0;
-    while row < height {
+    for row in 0..region.height as usize {
         convert_row(
-            numbers, block, dst, dst_format, to_size, src, src_format, from_size, region, z, row,
+            numbers, block, dst, to_size, src, from_size, pair, region, z, row,
         );
-        row += 1;
     }
 }
 
 // Every slice. What does not change from row to row is made here: the block, and how many bytes a texel has.
-fn convert_slices(
-    numbers: YuvSet,
-    dst: &mut [u8],
-    dst_format: u32,
-    src: &[u8],
-    src_format: u32,
-    region: ConvertRegion,
-)
-    requires { ((z : ℕ) → z < region.depth → (row : ℕ) → row < region.height → RowFits (length src.now) (length dst.old) src_format dst_format region z row) × (illegal_set src_format numbers ≡ false) }
-    ensures { dst.new ≡ region_written numbers src.now src_format dst_format region dst.old }
+fn convert_slices(numbers: YuvSet, dst: &mut [u8], src: &[u8], pair: Pair, region: ConvertRegion)
+    requires { ((z : ℕ) → z < region.depth → (row : ℕ) → row < region.height → RowFits (length src.now) (length dst.old) (source_code pair.source) (rgb_code pair.target) region z row) × (illegal_set (source_code pair.source) numbers ≡ false) }
+    ensures { dst.new ≡ region_written numbers src.now (source_code pair.source) (rgb_code pair.target) region dst.old }
 {
-    let to_size = formats::bytes_per_texel(dst_format);
-    let from_size = formats::bytes_per_texel(src_format);
-    let depth = region.depth;
+    let to_size = pair.target.bytes_per_texel();
+    let from_size = pair.source.bytes_per_texel();
     let mut block = [0u32; 64];
-    let mut z: usize = 0;
-    while z < depth {
+    for z in 0..region.depth {
         convert_slice(
             numbers,
             &mut block[..],
             dst,
-            dst_format,
             to_size,
             src,
-            src_format,
             from_size,
+            pair,
             region,
             z,
         );
-        z += 1;
     }
 }
+
+// ---- formats are numbers here, as the C interface hands them over; the reply has their types
 
 // Converts a region of `src` into `dst`, by slice, row and column; a YUV source by a set of numbers. The reply is decided before the
 // first byte is written; refused, `dst` is as it was.
@@ -109,29 +113,25 @@ pub fn convert_region_with_set(
     src_format: u32,
     region: ConvertRegion,
     numbers: YuvSet,
-) -> ConvertReply
+) -> Result<(), ConvertRefusal>
     ensures reply { result ≡ reply_with numbers src.now dst.old src_format dst_format region }
     ensures bytes { dst.new ≡ converted_with numbers src.now dst.old src_format dst_format region }
     ensures near { NearWith numbers src.now dst.old dst.new src_format dst_format region }
     ensures own { OwnWith numbers src.now dst.old dst.new src_format dst_format region }
     ensures kept { OthersKept dst.old dst.new dst_format region }
 {
-    let reply = convert_reply::check(
+    let pair = convert_reply::check(
         src.len(),
         src_format,
         dst.len(),
         dst_format,
         region,
         numbers,
-    );
-    if !reply.is_accepted() {
-        return reply;
+    )?;
+    if !convert_reply::is_empty(region) {
+        convert_slices(numbers, dst, src, pair, region);
     }
-    if convert_reply::is_empty(region) {
-        return reply;
-    }
-    convert_slices(numbers, dst, dst_format, src, src_format, region);
-    reply
+    Ok(())
 }
 
 // The same by document 01's numbers.
@@ -141,7 +141,7 @@ pub fn convert_region(
     src: &[u8],
     src_format: u32,
     region: ConvertRegion,
-) -> ConvertReply
+) -> Result<(), ConvertRefusal>
     ensures reply { result ≡ convert_reply src.now dst.old src_format dst_format region }
     ensures bytes { dst.new ≡ converted_bytes src.now dst.old src_format dst_format region }
     ensures near { NearSource src.now dst.old dst.new src_format dst_format region }

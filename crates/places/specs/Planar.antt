@@ -1,37 +1,18 @@
 -- The places of a planar texel, step by step: is there a layout, has it the texel, are luma, U and V within a length. Assumes nothing.
-use Rattle.std.specs.Prelude.{◌≡◌, ◌⊎◌, Bool, ◌&&◌, ℕ, ◌+◌, ◌≤◌, ◌<◌, ltb}
+use Rattle.std.specs.Prelude.{◌≡◌, ◌⊎◌, Bool, ◌&&◌, ℕ, ◌+◌, ◌≤◌, ◌<◌, ltb, Ok}
 use Rattle.std.proofs.Math.Path.{refl}
 use Rattle.std.proofs.Common.{sym, ap, ◌∙◌, inl, inr, arith, mul-le-mul}
 use Rattle.std.proofs.Math.Bool.{true, false}
 use Rattle.std.proofs.lemmas.Bool.{false≢true}
-use borrow.Author.Tests.{eq-eqb, ne_eqb, lt-ltb, le-ltb}
+use borrow.Author.Tests.{lt-ltb, le-ltb}
 use Rattle.words.specs.Tests.{pick}
-use Rattle.formats.specs.Codes.{YV12, NV12}
+use Rattle.formats.specs.Codes.{NV12}
 use Rattle.planar_yuv.specs.declared.PlanarYuvLayout.{PlanarYuvLayout}
-use Rattle.planar_yuv.specs.declared.PlanarYuvAnswer.TheVariants.{Layout, Refused}
 use Rattle.planar_yuv.specs.Rules.{allowed_yes, allowed_no}
-use Rattle.planar_yuv.specs.Offsets.{contains, luma_offset_at, u_offset_at, v_offset_at, nv12_u, nv12_v, yv12_u, yv12_v}
+use Rattle.planar_yuv.specs.Offsets.{contains, luma_offset_at, u_offset_at, v_offset_at, nv12_u, nv12_v}
 use Rattle.planar_yuv.proofs.ApartLaws.{planes}
-use Rattle.planar_yuv.specs.Answers.{reply_of, from_pitch, Legal, TexelOf, answered, refused, legal}
+use Rattle.planar_yuv.specs.Answers.{reply_of, refusal, from_pitch, Legal, TexelOf, answered, refused, legal}
 use Rattle.places.specs.Places.{Places, absent, layout_places, planar_places, places_in}
-
--- ---- U and V by the format
-module _ (f pitch rows x y : ℕ) where
-  pub u_yv12 : f ≡ YV12 → yv12_u pitch rows x y ≡ u_offset_at f pitch rows x y
-  unfolding u_offset_at
-  u_yv12 e = rw (eq-eqb f YV12 e) refl
-
-  pub u_nv12 : (f ≡ YV12 → ⊥) → nv12_u pitch rows x y ≡ u_offset_at f pitch rows x y
-  unfolding u_offset_at
-  u_nv12 n = rw (ne_eqb f YV12 n) refl
-
-  pub v_yv12 : f ≡ YV12 → yv12_v pitch rows x y ≡ v_offset_at f pitch rows x y
-  unfolding v_offset_at
-  v_yv12 e = rw (eq-eqb f YV12 e) refl
-
-  pub v_nv12 : (f ≡ YV12 → ⊥) → nv12_u pitch rows x y + 1 ≡ v_offset_at f pitch rows x y
-  unfolding v_offset_at nv12_v
-  v_nv12 n = rw (ne_eqb f YV12 n) refl
 
 -- the byte after a U of NV12 is one of the frame
 pub nv12_small : (l : PlanarYuvLayout) (x y : ℕ) → TexelOf l x y → nv12_u l.pitch l.luma_rows x y + 1 < 268435457
@@ -70,17 +51,17 @@ module _ (len f pitch rows y x : ℕ) where
   pub no_pitch : pitch ≡ 0 → planar_places f pitch rows y x ≡ absent
   no_pitch e = ap (λ t. pick t (layout_places f pitch rows y x) absent) (allowed_no (λ a. omega (arith, a.pitch_some)))
 
-  pub no_layout : reply_of Refused ≡ from_pitch f pitch rows → planar_places f pitch rows y x ≡ absent
+  pub no_layout : refusal ≡ from_pitch f pitch rows → planar_places f pitch rows y x ≡ absent
   no_layout e = ap (λ t. pick t (layout_places f pitch rows y x) absent) (refused f pitch rows e)
 
-  pub in_layout : (l : PlanarYuvLayout) → reply_of (Layout l) ≡ from_pitch f pitch rows
+  pub in_layout : (l : PlanarYuvLayout) → reply_of (Ok l) ≡ from_pitch f pitch rows
       → planar_places f pitch rows y x ≡ layout_places f l.pitch l.luma_rows y x
   in_layout l e =
       let a = answered f pitch rows l e in
       ap (λ t. pick t (layout_places f pitch rows y x) absent) (allowed_yes a.rules)
       ∙ rw (a.pitch_is, a.rows_are) refl
 
-  pub layout_legal : (l : PlanarYuvLayout) → reply_of (Layout l) ≡ from_pitch f pitch rows → Legal l
+  pub layout_legal : (l : PlanarYuvLayout) → reply_of (Ok l) ≡ from_pitch f pitch rows → Legal l
   layout_legal l e = legal (answered f pitch rows l e)
 
 pub absent_out : (len : ℕ) (p : Places) → p ≡ absent → false ≡ places_in len p

@@ -2,4 +2,5 @@
 pub mod Bounds
 pub mod ApartLaws
 pub mod AnswersLaws
-pub mod TooWide
+pub mod Refused
+pub mod ByFormat

@@ -1,15 +1,14 @@
 -- What a call for a layout answers: document 01's number and the layout's four values.
 -- Assumes nothing.
-use Rattle.std.specs.Prelude.{◌≡◌, refl, Bool, true, false, ◌&&◌, ℕ, ◌%◌, ◌≤◌, ◌<◌, leb}
-use Rattle.std.proofs.Common.{sym, ap, ◌∙◌, arith, le-leb, eq-eqb}
+use Rattle.std.specs.Prelude.{◌≡◌, refl, Bool, true, false, ◌&&◌, ℕ, ◌%◌, ◌≤◌, ◌<◌, leb, Result, Ok, Err}
+use Rattle.std.proofs.Common.{sym, ap, ◌∙◌, arith, le-leb}
 use Rattle.std.proofs.lemmas.Bool.{lt-leb}
 use Rattle.words.specs.Tests.{pick, and_out}
 use Rattle.formats.specs.Codes.{NV12, YV12}
 use Rattle.formats.specs.Classes.{is_planar_yuv, linear_row_pitch, max_texture_dim}
 use Rattle.planar_yuv.specs.declared.PlanarYuvLayout.{PlanarYuvLayout}
-use Rattle.planar_yuv.specs.declared.PlanarYuvAnswer.{PlanarYuvAnswer}
-use Rattle.planar_yuv.specs.declared.PlanarYuvAnswer.TheVariants.{Layout, Refused}
-use Rattle.planar_yuv.specs.Rules.{chroma_rows_of, total_bytes_of, allowed, Allowed, allowed_yes, allowed_no, allowed_is, pitch_holds}
+use Rattle.planar_yuv.specs.declared.NoPlanarLayout.{NoPlanarLayout}
+use Rattle.planar_yuv.specs.Rules.{chroma_rows_of, total_bytes_of, allowed, Allowed, allowed_yes, allowed_no, allowed_is, even_yes, pitch_holds}
 use Rattle.planar_yuv.specs.Offsets.{u_offset_at, v_offset_at}
 use Rattle.planar_yuv.specs.Apart.{Planes}
 
@@ -26,9 +25,9 @@ abbrev pub refusal : Reply
 refusal = record { number = 14; pitch = 0; luma_rows = 0; chroma_rows = 0; total_bytes = 0 }
 
 -- what each answer says in document 01's numbers
-abbrev pub reply_of : PlanarYuvAnswer → Reply
-reply_of (Layout l) = record { number = 0; pitch = l.pitch; luma_rows = l.luma_rows; chroma_rows = l.chroma_rows; total_bytes = l.total_bytes }
-reply_of Refused = refusal
+abbrev pub reply_of : Result PlanarYuvLayout NoPlanarLayout → Reply
+reply_of (Ok l) = record { number = 0; pitch = l.pitch; luma_rows = l.luma_rows; chroma_rows = l.chroma_rows; total_bytes = l.total_bytes }
+reply_of (Err _) = refusal
 
 -- the layout that four values are
 abbrev pub layout_of : Reply → PlanarYuvLayout
@@ -59,14 +58,14 @@ pub record TexelOf (l : PlanarYuvLayout) (x y : ℕ) : Type 0 where
   pub row : y < l.luma_rows
 
 -- a layout's planes keep apart
-abbrev pub PlanesOf : (f : ℕ) → PlanarYuvAnswer → Type 0
-PlanesOf f (Layout l) = Planes l.pitch l.luma_rows (u_offset_at f l.pitch l.luma_rows) (v_offset_at f l.pitch l.luma_rows)
-PlanesOf f Refused = Unit {0}
+abbrev pub PlanesOf : (f : ℕ) → Result PlanarYuvLayout NoPlanarLayout → Type 0
+PlanesOf f (Ok l) = Planes l.pitch l.luma_rows (u_offset_at f l.pitch l.luma_rows) (v_offset_at f l.pitch l.luma_rows)
+PlanesOf f (Err _) = Unit {0}
 
 -- a layout's rows hold width texels
-abbrev pub RowsHold : (width : ℕ) → PlanarYuvAnswer → Type 0
-RowsHold width (Layout l) = width ≤ l.pitch
-RowsHold width Refused = Unit {0}
+abbrev pub RowsHold : (width : ℕ) → Result PlanarYuvLayout NoPlanarLayout → Type 0
+RowsHold width (Ok l) = width ≤ l.pitch
+RowsHold width (Err _) = Unit {0}
 
 -- ---- what an answer means
 pub given : {f pitch rows : ℕ} → Allowed f pitch rows → from_pitch f pitch rows ≡ layout_reply pitch rows
@@ -85,11 +84,11 @@ pub record Answered (f pitch rows : ℕ) (l : PlanarYuvLayout) : Type 0 where
   pub chroma_are : l.chroma_rows ≡ chroma_rows_of rows
   pub total_is : l.total_bytes ≡ total_bytes_of pitch rows
 
-pub answered : (f pitch rows : ℕ) (l : PlanarYuvLayout) → reply_of (Layout l) ≡ from_pitch f pitch rows → Answered f pitch rows l
+pub answered : (f pitch rows : ℕ) (l : PlanarYuvLayout) → reply_of (Ok l) ≡ from_pitch f pitch rows → Answered f pitch rows l
 unfolding from_pitch
 answered f pitch rows l e = go (allowed f pitch rows) refl e
   where
-    go : (t : Bool) → allowed f pitch rows ≡ t → reply_of (Layout l) ≡ pick t (layout_reply pitch rows) refusal → Answered f pitch rows l
+    go : (t : Bool) → allowed f pitch rows ≡ t → reply_of (Ok l) ≡ pick t (layout_reply pitch rows) refusal → Answered f pitch rows l
     go true a e = record {
       rules = allowed_is f pitch rows a;
       pitch_is = ap (λ r. r.pitch) e;
@@ -100,11 +99,11 @@ answered f pitch rows l e = go (allowed f pitch rows) refl e
     go false a e = absurd (omega (arith, ap (λ r. r.number) e))
 
 -- an answer that holds no layout
-pub refused : (f pitch rows : ℕ) → reply_of Refused ≡ from_pitch f pitch rows → allowed f pitch rows ≡ false
+pub refused : (f pitch rows : ℕ) → refusal ≡ from_pitch f pitch rows → allowed f pitch rows ≡ false
 unfolding from_pitch
 refused f pitch rows e = go (allowed f pitch rows) e
   where
-    go : (t : Bool) → reply_of Refused ≡ pick t (layout_reply pitch rows) refusal → t ≡ false
+    go : (t : Bool) → refusal ≡ pick t (layout_reply pitch rows) refusal → t ≡ false
     go true e = absurd (omega (arith, ap (λ r. r.number) e))
     go false e = refl
 
@@ -130,36 +129,36 @@ legal {f} {pitch} {rows} {l} a = record {
 }
 
 -- the same of the values handed back
-pub planes_given : (f : ℕ) (r : PlanarYuvAnswer) → PlanesOf f r → (reply_of r).number ≡ 0
+pub planes_given : (f : ℕ) (r : Result PlanarYuvLayout NoPlanarLayout) → PlanesOf f r → (reply_of r).number ≡ 0
     → Planes (reply_of r).pitch (reply_of r).luma_rows (u_offset_at f (reply_of r).pitch (reply_of r).luma_rows) (v_offset_at f (reply_of r).pitch (reply_of r).luma_rows)
-planes_given f (Layout l) p z = p
-planes_given f Refused p z = absurd (omega arith)
+planes_given f (Ok l) p z = p
+planes_given f (Err _) p z = absurd (omega arith)
 
--- YV12 frames of even rows are laid out by NV12's rules
-pub yv12_even : (pitch rows : ℕ) → rows % 2 ≡ 0 → from_pitch NV12 pitch rows ≡ from_pitch YV12 pitch rows
+-- planar frames are laid out by NV12's rules, YV12's of even rows
+pub by_nv12 : (f pitch rows : ℕ) → is_planar_yuv f ≡ true → (f ≡ YV12 → rows % 2 ≡ 0) → from_pitch NV12 pitch rows ≡ from_pitch f pitch rows
 unfolding from_pitch allowed is_planar_yuv
-yv12_even pitch rows h = rw (eq-eqb (rows % 2) 0 h) refl
+by_nv12 f pitch rows p h = ap (λ t. pick t (layout_reply pitch rows) refusal) (rw (p, even_yes f rows h) refl)
 
 -- ---- from a width
 pub of_width : (f width height : ℕ) → 1 ≤ width → width ≤ max_texture_dim → from_width f width height ≡ from_pitch f (linear_row_pitch width) height
 unfolding from_width
 of_width f width height l u = rw (le-leb 1 width l, le-leb width max_texture_dim u) refl
 
-pub width_none : (f width height : ℕ) → width ≡ 0 → from_width f width height ≡ refusal
+pub width_none : (f width height : ℕ) → width ≡ 0 → refusal ≡ from_width f width height
 unfolding from_width
 width_none f width height e = rw (lt-leb 1 width (omega arith)) refl
 
-pub width_large : (f width height : ℕ) → max_texture_dim < width → from_width f width height ≡ refusal
+pub width_large : (f width height : ℕ) → max_texture_dim < width → refusal ≡ from_width f width height
 unfolding from_width
 width_large f width height h =
-    ap (λ t. pick t (from_pitch f (linear_row_pitch width) height) refusal) (and_out (leb 1 width) (leb width max_texture_dim) (lt-leb width max_texture_dim h))
+    sym (ap (λ t. pick t (from_pitch f (linear_row_pitch width) height) refusal) (and_out (leb 1 width) (leb width max_texture_dim) (lt-leb width max_texture_dim h)))
 
-pub rows_hold : (f width height : ℕ) (r : PlanarYuvAnswer) → reply_of r ≡ from_pitch f (linear_row_pitch width) height → RowsHold width r
-rows_hold f width height (Layout l) e =
+pub rows_hold : (f width height : ℕ) (r : Result PlanarYuvLayout NoPlanarLayout) → reply_of r ≡ from_pitch f (linear_row_pitch width) height → RowsHold width r
+rows_hold f width height (Ok l) e =
     let a = answered f (linear_row_pitch width) height l e in
     omega (arith, a.pitch_is, pitch_holds width)
-rows_hold f width height Refused e = tt
+rows_hold f width height (Err _) e = tt
 
-pub rows_given : (width : ℕ) (r : PlanarYuvAnswer) → RowsHold width r → (reply_of r).number ≡ 0 → width ≤ (reply_of r).pitch
-rows_given width (Layout l) p z = p
-rows_given width Refused p z = absurd (omega arith)
+pub rows_given : (width : ℕ) (r : Result PlanarYuvLayout NoPlanarLayout) → RowsHold width r → (reply_of r).number ≡ 0 → width ≤ (reply_of r).pitch
+rows_given width (Ok l) p z = p
+rows_given width (Err _) p z = absurd (omega arith)

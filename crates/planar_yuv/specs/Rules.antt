@@ -36,7 +36,7 @@ pub record Allowed (f pitch rows : ℕ) : Type 0 where
   pub rows_even : f ≡ YV12 → rows % 2 ≡ 0
   pub together : rows + chroma_rows_of rows ≤ max_texture_dim
 
-even_yes : (f rows : ℕ) → (f ≡ YV12 → rows % 2 ≡ 0) → even_rows f rows ≡ true
+pub even_yes : (f rows : ℕ) → (f ≡ YV12 → rows % 2 ≡ 0) → even_rows f rows ≡ true
 even_yes f rows h = go (eqb f YV12) refl
   where
     go : (t : Bool) → eqb f YV12 ≡ t → pick t (eqb (rows % 2) 0) true ≡ true

@@ -6,10 +6,11 @@
 
 ghost use Rattle.std.specs.Prelude.{◌≡◌, ◌+◌};
 ghost use Rattle.formats.specs.Codes.{NV12};
+ghost use Rattle.formats.specs.Formats.{planar_yuv_code};
 ghost use Rattle.planar_yuv.specs.Offsets.{contains, luma_offset_at, nv12_u, yv12_u, yv12_v};
 ghost use Rattle.planar_yuv.specs.Answers.{reply_of, from_pitch, from_width, Legal, TexelOf, PlanesOf, RowsHold};
 
-use formats::{D3DFMT_NV12, D3DFMT_YV12, MAX_TEXTURE_DIM};
+use formats::{MAX_TEXTURE_DIM, PlanarYuv};
 
 // Where the planes of a frame stand. Offsets take luma coordinates; the four texels of a 2 x 2 block share their chroma.
 #[derive(Clone, Copy)]
@@ -20,11 +21,16 @@ pub struct PlanarYuvLayout {
     pub total_bytes: usize,
 }
 
-#[derive(Clone, Copy)]
-pub enum PlanarYuvAnswer {
-    Layout(PlanarYuvLayout),
-    // Refusal 14.
-    Refused,
+// Refusal 14.
+#[derive(Clone, Copy, PartialEq, Eq)]
+pub struct NoPlanarLayout;
+
+impl From<NoPlanarLayout> for u32 {
+    ghost from_gives = { λ _ n. n ≡ 14 };
+
+    fn from(_refusal: NoPlanarLayout) -> u32 {
+        14
+    }
 }
 
 impl PlanarYuvLayout {
@@ -37,6 +43,7 @@ impl PlanarYuvLayout {
     }
 
     // The luma byte.
+    #[tactic(auto, using(crate::proofs::Bounds::luma_row), unfolding(crate::specs::Offsets::luma_offset_at))]
     pub fn luma_offset(self, x: usize, y: usize) -> usize
         requires { TexelOf self x y }
         ensures { result ≡ luma_offset_at self.pitch x y }
@@ -45,6 +52,7 @@ impl PlanarYuvLayout {
     }
 
     // The U byte of NV12; the V byte is the next one.
+    #[tactic(auto, using(crate::proofs::Bounds::base, crate::proofs::Bounds::pair_row), unfolding(crate::specs::Offsets::nv12_u))]
     pub fn nv12_uv_offset(self, x: usize, y: usize) -> usize
         requires { TexelOf self x y }
         ensures { result ≡ nv12_u self.pitch self.luma_rows x y }
@@ -54,6 +62,7 @@ impl PlanarYuvLayout {
     }
 
     // The V byte of YV12.
+    #[tactic(auto, using(crate::proofs::Bounds::base, crate::proofs::Bounds::half_row), unfolding(crate::specs::Offsets::yv12_v))]
     pub fn yv12_v_offset(self, x: usize, y: usize) -> usize
         requires { TexelOf self x y }
         ensures { result ≡ yv12_v self.pitch self.luma_rows x y }
@@ -63,6 +72,7 @@ impl PlanarYuvLayout {
     }
 
     // The U byte of YV12: the U plane starts where the chroma rows of the V plane end.
+    #[tactic(auto, using(crate::proofs::Bounds::base, crate::proofs::Bounds::half_row, crate::proofs::Bounds::plane), unfolding(crate::specs::Offsets::yv12_u, crate::specs::Offsets::yv12_v))]
     pub fn yv12_u_offset(self, x: usize, y: usize) -> usize
         requires { TexelOf self x y }
         ensures { result ≡ yv12_u self.pitch self.luma_rows x y }
@@ -79,84 +89,85 @@ impl PlanarYuvLayout {
     }
 }
 
+// ---- formats are numbers in these two, as the C interface hands them over
+
 // The layout of a frame of width x height texels; its pitch is the width raised to a multiple of 4.
-pub fn planar_yuv_layout(d3d_format: u32, width: u32, height: u32) -> PlanarYuvAnswer
+#[tactic(auto, using(crate::specs::Answers::width_none, crate::specs::Answers::width_large, crate::specs::Answers::of_width, crate::specs::Answers::rows_hold))]
+pub fn planar_yuv_layout(
+    d3d_format: u32,
+    width: u32,
+    height: u32,
+) -> Result<PlanarYuvLayout, NoPlanarLayout>
     ensures reply { reply_of result ≡ from_width d3d_format width height }
     ensures planes { PlanesOf d3d_format result }
     ensures rows { RowsHold width result }
 {
-    if width == 0 {
-        return PlanarYuvAnswer::Refused;
-    }
-    if width > MAX_TEXTURE_DIM {
-        return PlanarYuvAnswer::Refused;
+    if width == 0 || width > MAX_TEXTURE_DIM {
+        return Err(NoPlanarLayout);
     }
     let pitch = formats::linear_row_pitch(width);
-    layout_from_pitch(d3d_format, pitch, height)
+    planar_yuv_layout_from_pitch(d3d_format, pitch as usize, height as usize)
 }
 
 // The layout of a frame that is known by its pitch and luma rows, which may be any numbers.
+#[tactic(auto, using(crate::proofs::Refused::no_planar))]
 pub fn planar_yuv_layout_from_pitch(
     d3d_format: u32,
     pitch: usize,
     luma_rows: usize,
-) -> PlanarYuvAnswer
+) -> Result<PlanarYuvLayout, NoPlanarLayout>
     ensures reply { reply_of result ≡ from_pitch d3d_format pitch luma_rows }
     ensures planes { PlanesOf d3d_format result }
 {
-    if pitch > (MAX_TEXTURE_DIM as usize) {
-        return PlanarYuvAnswer::Refused;
-    }
-    if luma_rows > (MAX_TEXTURE_DIM as usize) {
-        return PlanarYuvAnswer::Refused;
-    }
-    layout_from_pitch(d3d_format, pitch as u32, luma_rows as u32)
+    let Some(format) = PlanarYuv::from_d3d(d3d_format) else {
+        return Err(NoPlanarLayout);
+    };
+    layout_from_pitch(format, pitch, luma_rows)
 }
 
-// The rules of each format.
-fn layout_from_pitch(d3d_format: u32, pitch: u32, luma_rows: u32) -> PlanarYuvAnswer
-    ensures { reply_of result ≡ from_pitch d3d_format pitch luma_rows }
+// The same of a planar format.
+#[tactic(auto, using(crate::proofs::Refused::too_wide, crate::proofs::Refused::too_tall, crate::proofs::Refused::odd_yv12, crate::proofs::Refused::even_yv12, crate::proofs::AnswersLaws::planes_of))]
+pub fn layout_from_pitch(
+    format: PlanarYuv,
+    pitch: usize,
+    luma_rows: usize,
+) -> Result<PlanarYuvLayout, NoPlanarLayout>
+    ensures reply { reply_of result ≡ from_pitch (planar_yuv_code format) pitch luma_rows }
+    ensures planes { PlanesOf (planar_yuv_code format) result }
 {
-    match d3d_format {
-        D3DFMT_YV12 => {
+    let (Ok(pitch), Ok(luma_rows)) = (u32::try_from(pitch), u32::try_from(luma_rows)) else {
+        return Err(NoPlanarLayout);
+    };
+    match format {
+        PlanarYuv::YV12 => {
             // The U plane of an odd height has no agreed origin.
             if luma_rows % 2 != 0 {
-                return PlanarYuvAnswer::Refused;
+                return Err(NoPlanarLayout);
             }
             nv12_layout(pitch, luma_rows)
         }
-        D3DFMT_NV12 => nv12_layout(pitch, luma_rows),
-        _ => PlanarYuvAnswer::Refused,
+        PlanarYuv::NV12 => nv12_layout(pitch, luma_rows),
     }
 }
 
 // The rules that both formats share, which are all of NV12's.
-#[tactic(auto, using(crate::proofs::TooWide::too_wide))]
-fn nv12_layout(pitch: u32, luma_rows: u32) -> PlanarYuvAnswer
+#[tactic(auto, using(crate::proofs::Refused::no_pitch, crate::proofs::Refused::too_wide, crate::proofs::Refused::odd_pitch, crate::proofs::Refused::no_rows, crate::proofs::Refused::too_tall, crate::proofs::Refused::too_many, crate::proofs::Refused::laid))]
+fn nv12_layout(pitch: u32, luma_rows: u32) -> Result<PlanarYuvLayout, NoPlanarLayout>
     ensures { reply_of result ≡ from_pitch NV12 pitch luma_rows }
 {
-    if pitch == 0 {
-        return PlanarYuvAnswer::Refused;
-    }
-    if pitch > MAX_TEXTURE_DIM {
-        return PlanarYuvAnswer::Refused;
-    }
     // An even pitch keeps a pair of chroma bytes, and half a pitch, in its own row.
-    if pitch % 2 != 0 {
-        return PlanarYuvAnswer::Refused;
+    if pitch == 0 || pitch > MAX_TEXTURE_DIM || pitch % 2 != 0 {
+        return Err(NoPlanarLayout);
     }
-    if luma_rows == 0 {
-        return PlanarYuvAnswer::Refused;
+    if luma_rows == 0 || luma_rows > MAX_TEXTURE_DIM {
+        return Err(NoPlanarLayout);
     }
-    if luma_rows > MAX_TEXTURE_DIM {
-        return PlanarYuvAnswer::Refused;
-    }
-    let chroma_rows = (luma_rows + 1) / 2;
+    let chroma_rows = luma_rows.div_ceil(2);
     let storage_rows = luma_rows + chroma_rows;
     if storage_rows > MAX_TEXTURE_DIM {
-        return PlanarYuvAnswer::Refused;
+        return Err(NoPlanarLayout);
     }
-    PlanarYuvAnswer::Layout(PlanarYuvLayout {
+    Ok(PlanarYuvLayout {
         pitch,
         luma_rows,
         chroma_rows,

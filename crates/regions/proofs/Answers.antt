@@ -1,18 +1,17 @@
 -- A conversion by its reply: refused, empty or accepted, and all that the contract says of each. Assumes nothing.
-use Rattle.std.specs.Prelude.{◌≡◌, refl, Bool, true, false, ◌||◌, List, ℕ, ◌+◌, ◌<◌, eqb, length, get_or}
+use Rattle.std.specs.Prelude.{◌≡◌, refl, Bool, true, false, ◌||◌, List, ℕ, ◌+◌, ◌<◌, eqb, length, get_or, Result, Ok, Err}
 use Rattle.std.proofs.Math.Path.{sym}
 use Rattle.std.proofs.Common.{ap, ◌∙◌, subst, arith, eqb-true}
 use Rattle.std.proofs.lemmas.Bool.{false≢true}
 use Rattle.words.specs.Iterate.{iterate_keeps}
 use Rattle.yuv_sets.specs.declared.YuvSet.{YuvSet}
 use Rattle.convert_reply.specs.declared.ConvertRegion.{ConvertRegion}
-use Rattle.convert_reply.specs.declared.ConvertReply.{ConvertReply}
-use Rattle.convert_reply.specs.declared.ConvertReply.TheVariants.{Accepted}
+use Rattle.convert_reply.specs.declared.ConvertRefusal.{ConvertRefusal}
 use Rattle.places.specs.Inside.{texel_fits}
 use Rattle.places.proofs.InsideLaws.{inside_at}
-use Rattle.convert_reply.specs.Replies.{illegal_set, is_empty, source_inside, destination_inside, reply_with, reply_number, if_accepted}
+use Rattle.convert_reply.specs.Replies.{illegal_set, is_empty, source_inside, destination_inside, reply_with, if_accepted}
 use Rattle.regions.specs.Regions.{row_written, slice_written, region_written, converted_with, InRegion, NearWith, OwnWith, OthersKept}
-use Rattle.convert_reply.specs.Passed.{convert_rgb, passed, sizes, is_accepted, is_refused}
+use Rattle.convert_reply.specs.Passed.{convert_rgb, passed, sizes}
 use Rattle.regions.proofs.Promises.{destination_fits, near_source, own_bytes, others_kept}
 use Rattle.regions.specs.Rows.{RowFits}
 
@@ -38,24 +37,24 @@ empty_written numbers src dst s d r h =
     dst refl
 
 -- ---- the reply, and the bytes after it
-abbrev Answer : YuvSet → (src dst : List ℕ) (s d : ℕ) → ConvertRegion → ConvertReply → List ℕ → Type 0
+abbrev Answer : YuvSet → (src dst : List ℕ) (s d : ℕ) → ConvertRegion → Result (Unit {0}) ConvertRefusal → List ℕ → Type 0
 Answer numbers src dst s d r a out = (a ≡ reply_with numbers src dst s d r) × (out ≡ converted_with numbers src dst s d r)
 
 module _ (numbers : YuvSet) (src dst : List ℕ) (s d : ℕ) (r : ConvertRegion) where
-  module _ (a : ConvertReply) (e : a ≡ reply_with numbers src dst s d r) where
-    pub refused : eqb (reply_number a) 0 ≡ false → Answer numbers src dst s d r a dst
+  module _ (a : Result (Unit {0}) ConvertRefusal) (e : a ≡ reply_with numbers src dst s d r) where
+    pub refused : (q : ConvertRefusal) → a ≡ Err q → Answer numbers src dst s d r a dst
     unfolding converted_with
-    refused h = (e, sym (ap (λ b. if_accepted b (region_written numbers src s d r dst) dst) (sym e) ∙ is_refused a (region_written numbers src s d r dst) dst h))
+    refused q h = (e, sym (ap (λ b. if_accepted b (region_written numbers src s d r dst) dst) (sym e ∙ h)))
 
-    pub accepted : eqb (reply_number a) 0 ≡ true → Answer numbers src dst s d r a (region_written numbers src s d r dst)
+    pub accepted : a ≡ Ok tt → Answer numbers src dst s d r a (region_written numbers src s d r dst)
     unfolding converted_with
-    accepted h = (e, sym (ap (λ b. if_accepted b (region_written numbers src s d r dst) dst) (sym e ∙ is_accepted a h)))
+    accepted h = (e, sym (ap (λ b. if_accepted b (region_written numbers src s d r dst) dst) (sym e ∙ h)))
 
-    pub empty : eqb (reply_number a) 0 ≡ true → is_empty r ≡ true → Answer numbers src dst s d r a dst
+    pub empty : a ≡ Ok tt → is_empty r ≡ true → Answer numbers src dst s d r a dst
     empty h n = (e, sym (empty_written numbers src dst s d r n) ∙ (accepted h).1)
 
   -- ---- the five clauses of the contract
-  pub promised : ((i : ℕ) → get_or src i 0 < 256) → (a : ConvertReply) (out : List ℕ) → Answer numbers src dst s d r a out
+  pub promised : ((i : ℕ) → get_or src i 0 < 256) → (a : Result (Unit {0}) ConvertRefusal) (out : List ℕ) → Answer numbers src dst s d r a out
       → (a ≡ reply_with numbers src dst s d r) × ((out ≡ converted_with numbers src dst s d r) × (NearWith numbers src dst out s d r × (OwnWith numbers src dst out s d r × OthersKept dst out d r)))
   promised byte a out w = (
     w.0,
@@ -69,10 +68,10 @@ module _ (numbers : YuvSet) (src dst : List ℕ) (s d : ℕ) (r : ConvertRegion)
   )
 
   -- ---- the set, and the rows of a region that is inside
-  pub set_fits : reply_with numbers src dst s d r ≡ Accepted → is_empty r ≡ false → illegal_set s numbers ≡ false
+  pub set_fits : reply_with numbers src dst s d r ≡ Ok tt → is_empty r ≡ false → illegal_set s numbers ≡ false
   set_fits h n = (passed numbers s d r (length src) (length dst) n h).set
 
-  pub rows_fit : reply_with numbers src dst s d r ≡ Accepted → is_empty r ≡ false
+  pub rows_fit : reply_with numbers src dst s d r ≡ Ok tt → is_empty r ≡ false
       → (z : ℕ) → z < r.depth → (row : ℕ) → row < r.height → RowFits (length src) (length dst) s d r z row
   unfolding source_inside destination_inside
   rows_fit h n z zl row rl =

@@ -1,5 +1,5 @@
 -- Near, own and kept hold of every conversion. Assumes nothing.
-use Rattle.std.specs.Prelude.{◌≡◌, refl, Bool, true, false, ℤ, pos, negsuc, length, get_or, take, drop}
+use Rattle.std.specs.Prelude.{◌≡◌, refl, Bool, true, false, ℤ, pos, negsuc, length, get_or, take, drop, Result, Ok, Err}
 use Rattle.std.proofs.Common.{sym, ap, ◌∙◌, subst, div-one, ne_eqb}
 use mathlib.Core.List.{List, [], ◌∷◌}
 use Prim.Native.Nat.{ℕ, zero, suc, ◌+◌, ◌-◌, ◌/◌, ◌^◌, ◌≤◌, ◌<◌}
@@ -22,8 +22,7 @@ use Rattle.stretch_rect.specs.Exact.{RgbStands}
 use Rattle.stretch_rect.proofs.ExactLaws.{bt601_stands, set_stands}
 use Rattle.words.specs.Integers.{clamp_to}
 use Rattle.convert_reply.specs.declared.ConvertRegion.{ConvertRegion}
-use Rattle.convert_reply.specs.declared.ConvertReply.{ConvertReply}
-use Rattle.convert_reply.specs.declared.ConvertReply.TheVariants.{Accepted, Unsupported, PlanarShape, SourceOutside, DestinationOutside, IllegalSet}
+use Rattle.convert_reply.specs.declared.ConvertRefusal.{ConvertRefusal}
 use Rattle.texels.specs.declared.Texel.{Texel}
 use Rattle.texels.specs.Texels.{decoded_of, encoded_bytes, byte_of, code_of, exact_of, value_of, Stands, Holds}
 use Rattle.texels.specs.Bounds.{channel_byte, encoded_holds, encoded_number}
@@ -58,7 +57,7 @@ clamp_byte (pos n) = omega arith
 clamp_byte (negsuc n) = omega arith
 
 -- ---- what an accepted conversion stores at a texel that shares no byte
-stored : (numbers : YuvSet) (src dst : List ℕ) (s d : ℕ) (r : ConvertRegion) → reply_to numbers s d r (length src) (length dst) ≡ Accepted → Disjoint d r
+stored : (numbers : YuvSet) (src dst : List ℕ) (s d : ℕ) (r : ConvertRegion) → reply_to numbers s d r (length src) (length dst) ≡ Ok tt → Disjoint d r
     → (z row col : ℕ) → InRegion r z row col → take (bytes_of d) (drop (to_at d r z row col) (converted_with numbers src dst s d r)) ≡ encoded_bytes d (source_texel numbers src s r z row col)
 unfolding converted_with
 stored numbers src dst s d r h apart z row col t =
@@ -169,10 +168,6 @@ pub others_kept : (numbers : YuvSet) (src dst : List ℕ) (s d : ℕ) (r : Conve
 unfolding converted_with
 others_kept numbers src dst s d r k none = go (reply_to numbers s d r (length src) (length dst))
   where
-    go : (a : ConvertReply) → get_or (if_accepted a (region_written numbers src s d r dst) dst) k 0 ≡ get_or dst k 0
-    go Accepted = region_other numbers src s d r k none dst
-    go Unsupported = refl
-    go PlanarShape = refl
-    go SourceOutside = refl
-    go DestinationOutside = refl
-    go IllegalSet = refl
+    go : (a : Result (Unit {0}) ConvertRefusal) → get_or (if_accepted a (region_written numbers src s d r dst) dst) k 0 ≡ get_or dst k 0
+    go (Ok _) = region_other numbers src s d r k none dst
+    go (Err _) = refl

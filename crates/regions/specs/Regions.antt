@@ -1,6 +1,6 @@
 -- What converting a region is: the bytes, and what holds of them.
 -- Assumes nothing.
-use Rattle.std.specs.Prelude.{◌≡◌, Bool, true, List, ℕ, ◌+◌, ◌%◌, ◌≤◌, ◌<◌, eqb, ℤ, get_or, take, drop}
+use Rattle.std.specs.Prelude.{◌≡◌, Bool, true, List, ℕ, ◌+◌, ◌%◌, ◌≤◌, ◌<◌, eqb, ℤ, get_or, take, drop, Ok}
 use Rattle.std.proofs.lemmas.List.Edits.{sets}
 use Rattle.words.specs.Tests.{pick}
 use Rattle.words.specs.Little.{number}
@@ -17,7 +17,6 @@ use Rattle.stretch_rect.specs.Samples.{luma_place, u_place, v_place}
 use Rattle.stretch_rect.specs.Exact.{clamped_value}
 use Rattle.texels.specs.declared.Texel.{Texel}
 use Rattle.convert_reply.specs.declared.ConvertRegion.{ConvertRegion}
-use Rattle.convert_reply.specs.declared.ConvertReply.TheVariants.{Accepted}
 use Rattle.texels.specs.Texels.{decoded_of, encoded_bytes, exact_of, Values, value_of, is_colour, Holds}
 use Rattle.places.specs.Places.{texel_start, places_at, bytes_at}
 use Rattle.convert_reply.specs.Replies.{reply_with, if_accepted}
@@ -132,7 +131,7 @@ Disjoint d r =
 -- near: each number that an accepted conversion stores lies near the exact value of the same channel of the source texel
 abbrev pub NearWith : YuvSet → (src dst out : List ℕ) (s d : ℕ) → ConvertRegion → Type 0
 NearWith numbers src dst out s d r =
-    reply_with numbers src dst s d r ≡ Accepted → Disjoint d r
+    reply_with numbers src dst s d r ≡ Ok tt → Disjoint d r
     → (z row col : ℕ) → InRegion r z row col → (c : Channel) → is_colour c ≡ true
     → Holds c (lane_of d c) (number (take (bytes_of d) (drop (to_at d r z row col) out))) (value_of (source_values numbers src s r z row col) c)
 
@@ -154,7 +153,7 @@ pub record HoldsColour (numbers : YuvSet) (d word y u v : ℕ) : Type 0 where
 -- own: each red, green and blue that an accepted conversion stores in eight bits of a YUV texel lies so near to what the set's own numbers define of its luma, U and V
 abbrev pub OwnWith : YuvSet → (src dst out : List ℕ) (s d : ℕ) → ConvertRegion → Type 0
 OwnWith numbers src dst out s d r =
-    reply_with numbers src dst s d r ≡ Accepted → Disjoint d r → is_yuv s ≡ true
+    reply_with numbers src dst s d r ≡ Ok tt → Disjoint d r → is_yuv s ≡ true
     → (z row col : ℕ) → InRegion r z row col
     → HoldsColour numbers d (number (take (bytes_of d) (drop (to_at d r z row col) out)))
     (luma_of s (odd_at r col) (source_bytes src s r z row col)) (u_of s (source_bytes src s r z row col)) (v_of s (source_bytes src s r z row col))

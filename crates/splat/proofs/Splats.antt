@@ -1,13 +1,13 @@
 -- A pattern written from the front of a slice on, by a byte, by a block, and to the end. Assumes nothing.
 use mathlib.Core.Path.{◌≡◌, refl, sym, ap, ◌∙◌, subst}
-use mathlib.Core.List.{List, [], ◌∷◌, ◌++◌, append-nil}
+use mathlib.Core.List.{List, [], ◌∷◌, ◌++◌}
 use mathlib.Core.Logic.{inl, inr, ⊎_elim}
 use Prim.Native.Nat.{ℕ, ◌+◌, ◌*◌, ◌-◌, ◌/◌, ◌%◌, ◌≤◌, ◌<◌}
-use native.Mathlib.Nat.{not-suc-le-zero, mod-lt, div-add-mod', add-zero, mul-add-mod_self_right}
+use native.Mathlib.Nat.{mod-lt, div-add-mod', add-zero, mul-add-mod_self_right, mul_assoc, mul-mod_left}
 use native.Mathlib.Omega.{arith}
 use lib.Arith.{digits_mod, lt_of_le-ne}
-use lib.ListN.{length, get_or, replicate, set, take, drop, length-drop, length-append, drop_of_length-le, get_or-append}
-use lib.Seq.{sets, get_or-set_same, get_or-set_other, take-suc, take_all, get_or-take, get_or-append-add, length-take-le, length-sets, sets-eq, get_or-drop}
+use lib.ListN.{length, get_or, set, take, drop, length-drop, length-append, get_or-append}
+use lib.Seq.{sets, get_or-set_same, get_or-set_other, take-suc, get_or-take, get_or-append-add, length-take-le, get_or-drop}
 use native.Mathlib.Numerals.{add-one}
 use Rattle.words.specs.Slices.{sets_append, sets_before, sets_inside, part_back, part_read}
 use Rattle.words.specs.Tests.{lt_or_eq, split}
@@ -16,9 +16,6 @@ use Rattle.splat.specs.Splat.{Splat}
 -- the bytes below place `at` are the pattern's
 abbrev pub Done : (pixel dst : List ℕ) (at : ℕ) → Type 0
 Done pixel dst at = (k : ℕ) → k < at → get_or dst k 0 ≡ get_or pixel (k % length pixel) 0
-
-pub done_none : (pixel dst : List ℕ) → Done pixel dst 0
-done_none pixel dst k l = absurd (not-suc-le-zero l)
 
 -- all of them
 pub all_done : (pixel before after : List ℕ) → 0 < length pixel → length after ≡ length before → Done pixel after (length before) → Splat pixel before after
@@ -75,10 +72,10 @@ done_block pixel dst block at h e b d k l = elim (split k at) [
       ∙ ap (λ x. get_or pixel x 0) (sym (same_place at i (length pixel) e) ∙ ap (λ x. x % length pixel) whole)
 ]
 
--- ---- to the end: the part from `at` on was lent, and came back as w
-pub done_rest : (pixel dst w : List ℕ) (at k : ℕ) → at ≤ length dst → k ≡ length dst - at → at % length pixel ≡ 0 → 0 < length pixel
-    → Splat pixel (take k (drop at dst)) w → Done pixel dst at → Splat pixel dst (take at dst ++ (w ++ drop k (drop at dst)))
-done_rest pixel dst w at k h q e N s d = record {
+-- ---- to the end: the part of k bytes from `at` on was lent, and came back as w
+pub done_rest : (pixel before dst w : List ℕ) (at k : ℕ) → length dst ≡ length before → at ≤ length dst → k ≡ length dst - at → at % length pixel ≡ 0 → 0 < length pixel
+    → Splat pixel (take k (drop at dst)) w → Done pixel dst at → Splat pixel before (take at dst ++ (w ++ drop k (drop at dst)))
+done_rest pixel before dst w at k z h q e N s d = record {
   same_length = omega (arith, length-append (take at dst) (w ++ drop k (drop at dst)), length-append w (drop k (drop at dst)), length-drop k (drop at dst), length-drop at dst, front, back);
   repeated = λ p i l. elim (split i at) [
     | inl below ↦ get_or-append (take at dst) (w ++ drop k (drop at dst)) 0 i (omega (arith, front)) ∙ get_or-take at dst i 0 below ∙ d i below
@@ -104,24 +101,24 @@ done_rest pixel dst w at k h q e N s d = record {
     back : length w ≡ k
     back = s.same_length ∙ lent
 
--- ---- one turn: the part from `at` on was lent, a block was put at its front, and it came back as w
-pub record Turned (pixel dst dst' : List ℕ) (at n : ℕ) : Type 0 where
-  pub same_length : length dst' ≡ length dst
-  pub whole : (at + n) % length pixel ≡ 0
-  pub done : Done pixel dst' (at + n)
+-- ---- a whole number of patterns at each turn
+pub whole_turns : (i m n : ℕ) → m % n ≡ 0 → i * m % n ≡ 0
+whole_turns i m n e =
+    let part : m / n * n ≡ m = omega (arith, div-add-mod' m n) in
+    ap (λ x. x % n) (ap (λ x. i * x) (sym part) ∙ sym (mul_assoc i (m / n) n)) ∙ mul-mod_left (i * (m / n)) n
 
-pub turn : (pixel dst block w before : List ℕ) (at k n : ℕ) → k ≡ length dst - at → length block ≡ n → at + n ≤ length dst → 0 < length pixel
-    → at % length pixel ≡ 0 → n % length pixel ≡ 0 → length before ≡ n → Splat pixel before block → w ≡ sets (take k (drop at dst)) 0 block → Done pixel dst at
-    → Turned pixel dst (take at dst ++ (w ++ drop k (drop at dst))) at n
-turn pixel dst block w before at k n q b h N e f m s p d =
-    let back : take at dst ++ (w ++ drop k (drop at dst)) ≡ sets dst at block =
-    ap (λ x. take at dst ++ (x ++ drop k (drop at dst))) p ∙ part_back dst at k block q (omega arith) in
-    record {
-      same_length = ap length back ∙ length-sets dst at block;
-      whole = same_place at n (length pixel) e ∙ f;
-      done = subst (λ x. Done pixel x (at + n)) (sym back)
-          (subst (λ x. Done pixel (sets dst at block) (at + x)) b (done_block pixel dst block at (omega arith) e (λ i l. s.repeated N i (omega arith)) d));
-    }
+-- ---- one turn: the part of k bytes from `at` on was lent, and came back with the block, which is the pattern's, at its front
+pub turn_of : (pixel dst block w before : List ℕ) (at k : ℕ) → k ≡ length dst - at → at + 48 ≤ length dst → 0 < length pixel → at % length pixel ≡ 0 → length before ≡ 48
+    → Splat pixel before block → w ≡ sets (take k (drop at dst)) 0 block → Done pixel dst at → Done pixel (take at dst ++ (w ++ drop k (drop at dst))) (at + 48)
+turn_of pixel dst block w before at k q h N e n s p d =
+    subst (λ x. Done pixel x (at + 48)) (sym back)
+    (subst (λ x. Done pixel (sets dst at block) (at + x)) size (done_block pixel dst block at (omega arith) e (λ i l. s.repeated N i (omega arith)) d))
+  where
+    size : length block ≡ 48
+    size = s.same_length ∙ n
+
+    back : take at dst ++ (w ++ drop k (drop at dst)) ≡ sets dst at block
+    back = ap (λ x. take at dst ++ (x ++ drop k (drop at dst))) p ∙ part_back dst at k block q (omega arith)
 
 -- ---- a block from `back` bytes before, a whole number of patterns, at a place up to which all is done
 pub done_copy : (pixel dst : List ℕ) (m p back n : ℕ) → p ≤ m → back ≤ p → n ≤ back → p + n ≤ length dst → back % length pixel ≡ 0 → Done pixel dst m
@@ -146,18 +143,12 @@ done_copy pixel dst m p back n h g f u e d k l = elim (split k p) [
     count : length (take n (drop (p - back) dst)) ≡ n
     count = length-take-le n (drop (p - back) dst) (omega (arith, length-drop (p - back) dst))
 
--- ---- a slice that is written whole
-pub sets_all : (l vs : List ℕ) → length l ≡ length vs → sets l 0 vs ≡ vs
-sets_all l vs e =
-    sets-eq vs l 0 (omega arith) ∙ ap (λ x. vs ++ x) (drop_of_length-le l {i = 0 + length vs} (omega arith)) ∙ append-nil vs
-
 -- ---- a block copied out of a slice, and put at another place of it
-pub copied : (dst block w : List ℕ) (at from : ℕ) → from + 48 ≤ length dst → at + 48 ≤ length dst
-    → block ≡ sets (replicate 48 0) 0 (take 48 (take (length dst - from) (drop from dst)))
-    → w ≡ sets (take (length dst - at) (drop at dst)) 0 (take 48 block)
+pub copied : (dst block w : List ℕ) (at from : ℕ) → from + 48 ≤ length dst → at + 48 ≤ length dst → block ≡ take 48 (take (length dst - from) (drop from dst))
+    → w ≡ sets (take (length dst - at) (drop at dst)) 0 block
     → take at dst ++ (w ++ drop (length dst - at) (drop at dst)) ≡ sets dst at (take 48 (drop from dst))
 copied dst block w at from f h e p =
-    ap (λ x. take at dst ++ (x ++ drop (length dst - at) (drop at dst))) (p ∙ ap (λ x. sets (take (length dst - at) (drop at dst)) 0 (take 48 x)) out ∙ ap (sets (take (length dst - at) (drop at dst)) 0) (take_all 48 part (omega (arith, count))))
+    ap (λ x. take at dst ++ (x ++ drop (length dst - at) (drop at dst))) (p ∙ ap (sets (take (length dst - at) (drop at dst)) 0) (e ∙ ap (take 48) (part_read dst from)))
     ∙ part_back dst at (length dst - at) part refl (omega (arith, count))
   where
     part : List ℕ
@@ -165,9 +156,6 @@ copied dst block w at from f h e p =
 
     count : length (take 48 (drop from dst)) ≡ 48
     count = length-take-le 48 (drop from dst) (omega (arith, length-drop from dst))
-
-    out : block ≡ take 48 (drop from dst)
-    out = e ∙ ap (λ x. sets (replicate 48 0) 0 (take 48 x)) (part_read dst from) ∙ sets_all (replicate 48 0) (take 48 (drop from dst)) (sym count)
 
 -- ---- the front of a slice, done
 pub record Front (pixel dst dst' : List ℕ) (n : ℕ) : Type 0 where

@@ -1,6 +1,5 @@
 -- Laws that other crates cite, and what the proofs of several functions use.
 pub mod Sizes
-pub mod Codes
 pub mod Places
 pub mod Decimals
 pub mod NearnessLaws

@@ -1,17 +1,11 @@
--- Bytes at equal places are equal: one that is picked by parity, and the three of a sample. Assumes nothing.
-use mathlib.Core.Path.{◌≡◌, refl, ◌∙◌}
-use mathlib.Core.Bool.{Bool, true, false}
+-- Bytes at equal places are equal, the three of a sample. Assumes nothing.
+use mathlib.Core.Path.{◌≡◌, ◌∙◌}
 use mathlib.Core.List.{List}
 use Prim.Native.Nat.{ℕ}
 use lib.ListN.{get_or}
-use Rattle.words.specs.Tests.{pick}
 use Rattle.stretch_rect.specs.declared.Rgb.{Rgb}
 use Rattle.yuv_sets.specs.declared.YuvSet.{YuvSet}
 use Rattle.stretch_rect.specs.Yuv.{rgb_of}
-
-pub pick_at : (odd : Bool) (m : List ℕ) (i j : ℕ) → pick odd (get_or m i 0) (get_or m j 0) ≡ get_or m (pick odd i j) 0
-pick_at true m i j = refl
-pick_at false m i j = refl
 
 pub rgb_at : {p : Rgb} (s : YuvSet) (m : List ℕ) {y u v y' u' v' : ℕ} → p ≡ rgb_of s (get_or m y 0) (get_or m u 0) (get_or m v 0) → y ≡ y' → u ≡ u' → v ≡ v'
     → p ≡ rgb_of s (get_or m y' 0) (get_or m u' 0) (get_or m v' 0)

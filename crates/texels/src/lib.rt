@@ -3,21 +3,16 @@
 // Ported from pixel_convert.rs of athei/mtld3d (an altered version, see NOTICE).
 #![tactic(auto)]
 
-ghost use Rattle.std.specs.Prelude.{◌≡◌, true, ◌||◌, ◌*◌, ◌≤◌, ◌%◌, eqb, length, take};
+ghost use Rattle.std.specs.Prelude.{◌≡◌, ◌*◌, ◌≤◌, ◌%◌, length, take};
 ghost use Rattle.words.specs.Little.{number};
 ghost use Rattle.formats.specs.Codes.{R8G8B8, A8R8G8B8, X8R8G8B8, R5G6B5, X1R5G5B5, A1R5G5B5, A4R4G4B4, A8, A2B10G10R10, A8B8G8R8, X8B8G8R8, G16R16, A2R10G10B10, A16B16G16R16, L8, A8L8, V8U8, Q8W8V8U8, L16, A32B32G32R32F};
 ghost use Rattle.formats.specs.Table.{bytes_of};
-ghost use Rattle.formats.specs.Classes.{is_convertible_rgb, is_code_source};
+ghost use Rattle.formats.specs.Formats.{rgb_code, code_source_code, lane_source_code};
 ghost use Rattle.channels.specs.Expansion.{expanded};
 ghost use Rattle.channels.specs.Nearest.{rounded};
 ghost use Rattle.texels.specs.Texels.{decoded_of};
 
-use formats::{
-    D3DFMT_A1R5G5B5, D3DFMT_A2B10G10R10, D3DFMT_A2R10G10B10, D3DFMT_A4R4G4B4, D3DFMT_A8,
-    D3DFMT_A8B8G8R8, D3DFMT_A8L8, D3DFMT_A8R8G8B8, D3DFMT_A16B16G16R16, D3DFMT_A32B32G32R32F,
-    D3DFMT_G16R16, D3DFMT_L8, D3DFMT_L16, D3DFMT_Q8W8V8U8, D3DFMT_R5G6B5, D3DFMT_R8G8B8,
-    D3DFMT_V8U8, D3DFMT_X1R5G5B5, D3DFMT_X8B8G8R8, D3DFMT_X8R8G8B8,
-};
+use formats::{CodeSource, LaneSource, RgbFormat};
 
 // A texel on its way between two formats: a byte for each channel.
 #[derive(Clone, Copy)]
@@ -28,55 +23,37 @@ pub struct Texel {
     pub a: u8,
 }
 
+impl Texel {
+    // The same colour with full alpha.
+    pub fn opaque(self) -> Texel
+        ensures { result ≡ record { r = self.r; g = self.g; b = self.b; a = 255 } }
+    {
+        Texel { a: 0xff, ..self }
+    }
+}
+
 // ---- decoding: a texel's word, by its format
 
-// The lowest byte of a word, which is its own expansion.
-fn expand8(v: u32) -> u8
-    ensures { result ≡ expanded 8 (v % 256) }
+pub fn decode_a8r8g8b8(v: u32) -> Texel
+    ensures { result ≡ decoded_of A8R8G8B8 v }
 {
-    (v % 256) as u8
+    let [b, g, r, a] = v.to_le_bytes();
+    Texel { r, g, b, a }
 }
 
 fn decode_r8g8b8(v: u32) -> Texel
     ensures { (result ≡ decoded_of R8G8B8 v) × (result ≡ decoded_of X8R8G8B8 v) }
 {
-    Texel {
-        r: expand8(v >> 16),
-        g: expand8(v >> 8),
-        b: expand8(v),
-        a: 0xff,
-    }
-}
-
-pub fn decode_a8r8g8b8(v: u32) -> Texel
-    ensures { result ≡ decoded_of A8R8G8B8 v }
-{
-    Texel {
-        r: expand8(v >> 16),
-        g: expand8(v >> 8),
-        b: expand8(v),
-        a: expand8(v >> 24),
-    }
+    decode_a8r8g8b8(v).opaque()
 }
 
 fn decode_r5g6b5(v: u16) -> Texel
     ensures { result ≡ decoded_of R5G6B5 v }
 {
     Texel {
-        r: channels::expand5(v >> 11),
-        g: channels::expand6(v >> 5),
-        b: channels::expand5(v),
-        a: 0xff,
-    }
-}
-
-fn decode_x1r5g5b5(v: u16) -> Texel
-    ensures { result ≡ decoded_of X1R5G5B5 v }
-{
-    Texel {
-        r: channels::expand5(v >> 10),
-        g: channels::expand5(v >> 5),
-        b: channels::expand5(v),
+        r: channels::expand::<5>(v >> 11),
+        g: channels::expand::<6>(v >> 5),
+        b: channels::expand::<5>(v),
         a: 0xff,
     }
 }
@@ -85,21 +62,27 @@ fn decode_a1r5g5b5(v: u16) -> Texel
     ensures { result ≡ decoded_of A1R5G5B5 v }
 {
     Texel {
-        r: channels::expand5(v >> 10),
-        g: channels::expand5(v >> 5),
-        b: channels::expand5(v),
-        a: channels::expand1(v >> 15),
+        r: channels::expand::<5>(v >> 10),
+        g: channels::expand::<5>(v >> 5),
+        b: channels::expand::<5>(v),
+        a: channels::expand::<1>(v >> 15),
     }
+}
+
+fn decode_x1r5g5b5(v: u16) -> Texel
+    ensures { result ≡ decoded_of X1R5G5B5 v }
+{
+    decode_a1r5g5b5(v).opaque()
 }
 
 fn decode_a4r4g4b4(v: u16) -> Texel
     ensures { result ≡ decoded_of A4R4G4B4 v }
 {
     Texel {
-        r: channels::expand4(v >> 8),
-        g: channels::expand4(v >> 4),
-        b: channels::expand4(v),
-        a: channels::expand4(v >> 12),
+        r: channels::expand::<4>(v >> 8),
+        g: channels::expand::<4>(v >> 4),
+        b: channels::expand::<4>(v),
+        a: channels::expand::<4>(v >> 12),
     }
 }
 
@@ -110,40 +93,30 @@ fn decode_a8(v: u8) -> Texel
         r: 0,
         g: 0,
         b: 0,
-        a: expand8(v as u32),
+        a: v,
     }
 }
 
 fn decode_a8b8g8r8(v: u32) -> Texel
     ensures { result ≡ decoded_of A8B8G8R8 v }
 {
-    Texel {
-        r: expand8(v),
-        g: expand8(v >> 8),
-        b: expand8(v >> 16),
-        a: expand8(v >> 24),
-    }
+    let [r, g, b, a] = v.to_le_bytes();
+    Texel { r, g, b, a }
 }
 
 fn decode_x8b8g8r8(v: u32) -> Texel
     ensures { result ≡ decoded_of X8B8G8R8 v }
 {
-    Texel {
-        r: expand8(v),
-        g: expand8(v >> 8),
-        b: expand8(v >> 16),
-        a: 0xff,
-    }
+    decode_a8b8g8r8(v).opaque()
 }
 
 fn decode_l8(v: u8) -> Texel
     ensures { result ≡ decoded_of L8 v }
 {
-    let l = expand8(v as u32);
     Texel {
-        r: l,
-        g: l,
-        b: l,
+        r: v,
+        g: v,
+        b: v,
         a: 0xff,
     }
 }
@@ -151,12 +124,12 @@ fn decode_l8(v: u8) -> Texel
 fn decode_a8l8(v: u16) -> Texel
     ensures { result ≡ decoded_of A8L8 v }
 {
-    let l = expand8(v as u32);
+    let [l, a] = v.to_le_bytes();
     Texel {
         r: l,
         g: l,
         b: l,
-        a: expand8((v >> 8) as u32),
+        a,
     }
 }
 
@@ -174,18 +147,18 @@ fn decode_a2r10g10b10(v: u32) -> Texel
         r: channels::unorm10_to_unorm8(v >> 20),
         g: channels::unorm10_to_unorm8(v >> 10),
         b: channels::unorm10_to_unorm8(v),
-        a: channels::expand2(v >> 30),
+        a: channels::expand::<2>((v >> 30) as u16),
     }
 }
 
 fn decode_a2b10g10r10(v: u32) -> Texel
     ensures { result ≡ decoded_of A2B10G10R10 v }
 {
+    let t = decode_a2r10g10b10(v);
     Texel {
-        r: channels::unorm10_to_unorm8(v),
-        g: channels::unorm10_to_unorm8(v >> 10),
-        b: channels::unorm10_to_unorm8(v >> 20),
-        a: channels::expand2(v >> 30),
+        r: t.b,
+        b: t.r,
+        ..t
     }
 }
 
@@ -262,52 +235,53 @@ fn decode_a32b32g32r32f(px: &[u8]) -> Texel
     }
 }
 
-// The texel at the front of `px`, of one of the RGB formats or of A32B32G32R32F.
-pub fn decode_pixel(d3d_format: u32, px: &[u8]) -> Texel
-    requires { ((is_convertible_rgb d3d_format || eqb d3d_format A32B32G32R32F) ≡ true) × (bytes_of d3d_format ≤ length px.now) }
-    ensures { result ≡ decoded_of d3d_format (number (take (bytes_of d3d_format) px.now)) }
+// A `match` and no table of functions, here and where texels are written: the compiler sees a loop's format through it.
+
+// The texel at the front of `px`, of an RGB format.
+fn decode_rgb(format: RgbFormat, px: &[u8]) -> Texel
+    requires { bytes_of (rgb_code format) ≤ length px.now }
+    ensures { result ≡ decoded_of (rgb_code format) (number (take (bytes_of (rgb_code format)) px.now)) }
 {
-    match d3d_format {
-        D3DFMT_R8G8B8 => decode_r8g8b8(words::le24(px)),
-        D3DFMT_A8R8G8B8 => decode_a8r8g8b8(words::le32(px)),
-        D3DFMT_X8R8G8B8 => decode_r8g8b8(words::le32(px)),
-        D3DFMT_R5G6B5 => decode_r5g6b5(words::le16(px)),
-        D3DFMT_X1R5G5B5 => decode_x1r5g5b5(words::le16(px)),
-        D3DFMT_A1R5G5B5 => decode_a1r5g5b5(words::le16(px)),
-        D3DFMT_A4R4G4B4 => decode_a4r4g4b4(words::le16(px)),
-        D3DFMT_A8 => decode_a8(words::le8(px)),
-        D3DFMT_A8B8G8R8 => decode_a8b8g8r8(words::le32(px)),
-        D3DFMT_X8B8G8R8 => decode_x8b8g8r8(words::le32(px)),
-        D3DFMT_L8 => decode_l8(words::le8(px)),
-        D3DFMT_A8L8 => decode_a8l8(words::le16(px)),
-        D3DFMT_A32B32G32R32F => decode_a32b32g32r32f(px),
-        _ => Texel {
-            r: 0,
-            g: 0,
-            b: 0,
-            a: 0xff,
-        },
+    match format {
+        RgbFormat::R8G8B8 => decode_r8g8b8(words::le24(px)),
+        RgbFormat::A8R8G8B8 => decode_a8r8g8b8(words::le32(px)),
+        RgbFormat::X8R8G8B8 => decode_r8g8b8(words::le32(px)),
+        RgbFormat::R5G6B5 => decode_r5g6b5(words::le16(px)),
+        RgbFormat::X1R5G5B5 => decode_x1r5g5b5(words::le16(px)),
+        RgbFormat::A1R5G5B5 => decode_a1r5g5b5(words::le16(px)),
+        RgbFormat::A4R4G4B4 => decode_a4r4g4b4(words::le16(px)),
+        RgbFormat::A8 => decode_a8(words::le8(px)),
+        RgbFormat::A8B8G8R8 => decode_a8b8g8r8(words::le32(px)),
+        RgbFormat::X8B8G8R8 => decode_x8b8g8r8(words::le32(px)),
+        RgbFormat::L8 => decode_l8(words::le8(px)),
+        RgbFormat::A8L8 => decode_a8l8(words::le16(px)),
     }
 }
 
-// The same, of one of the other formats that convert into A8R8G8B8 alone.
-pub fn decode_code_source(d3d_format: u32, px: &[u8]) -> Texel
-    requires { (is_code_source d3d_format ≡ true) × (bytes_of d3d_format ≤ length px.now) }
-    ensures { result ≡ decoded_of d3d_format (number (take (bytes_of d3d_format) px.now)) }
+// The same of a source of whole numbers.
+fn decode_code_source(format: CodeSource, px: &[u8]) -> Texel
+    requires { bytes_of (code_source_code format) ≤ length px.now }
+    ensures { result ≡ decoded_of (code_source_code format) (number (take (bytes_of (code_source_code format)) px.now)) }
 {
-    match d3d_format {
-        D3DFMT_A16B16G16R16 => decode_a16b16g16r16(px),
-        D3DFMT_A2R10G10B10 => decode_a2r10g10b10(words::le32(px)),
-        D3DFMT_A2B10G10R10 => decode_a2b10g10r10(words::le32(px)),
-        D3DFMT_G16R16 => decode_g16r16(words::le32(px)),
-        D3DFMT_L16 => decode_l16(words::le16(px)),
-        D3DFMT_V8U8 => decode_v8u8(words::le16(px)),
-        D3DFMT_Q8W8V8U8 => decode_q8w8v8u8(words::le32(px)),
-        _ => Texel {
-            r: 0,
-            g: 0,
-            b: 0,
-            a: 0xff,
-        },
+    match format {
+        CodeSource::A16B16G16R16 => decode_a16b16g16r16(px),
+        CodeSource::A2R10G10B10 => decode_a2r10g10b10(words::le32(px)),
+        CodeSource::A2B10G10R10 => decode_a2b10g10r10(words::le32(px)),
+        CodeSource::G16R16 => decode_g16r16(words::le32(px)),
+        CodeSource::L16 => decode_l16(words::le16(px)),
+        CodeSource::V8U8 => decode_v8u8(words::le16(px)),
+        CodeSource::Q8W8V8U8 => decode_q8w8v8u8(words::le32(px)),
+    }
+}
+
+// The same of any format with lanes.
+pub fn decode_pixel(format: LaneSource, px: &[u8]) -> Texel
+    requires { bytes_of (lane_source_code format) ≤ length px.now }
+    ensures { result ≡ decoded_of (lane_source_code format) (number (take (bytes_of (lane_source_code format)) px.now)) }
+{
+    match format {
+        LaneSource::Rgb(rgb) => decode_rgb(rgb, px),
+        LaneSource::Codes(codes) => decode_code_source(codes, px),
+        LaneSource::Floats => decode_a32b32g32r32f(px),
     }
 }

@@ -1,6 +1,7 @@
 // The library's calls, each under the plain name by which crates/wentuqis_c exports it to Rust and C. A reply of 0 is acceptance,
 // any other number is a refusal: 1 to 14 of document 01, 15 of document 02. Nothing is asked of a caller that Rattle can see: every
 // input has its reply, a refused call leaves every lent byte as it was, and what is handed back is then zero.
+// Formats are codes, and a region, a set and a layout are numbers one by one, since the C interface hands them over so.
 #![tactic(auto)]
 
 ghost use Rattle.std.specs.Prelude.{◌≡◌, [], ◌∷◌, ◌≤◌, ◌<◌, length, get_or};
@@ -77,8 +78,7 @@ pub fn wentuqis_convert_region(
         dst_slice_pitch,
         depth,
     );
-    let reply = pixel_convert::convert_region(dst, dst_format, src, src_format, region);
-    reply.number()
+    boundary::reply_number(pixel_convert::convert_region(dst, dst_format, src, src_format, region))
 }
 
 // Refusals 1, 2, 15, 3 and 4, in this order: a YUV source by a set of numbers, which 15 refuses if it is not legal.
@@ -134,10 +134,9 @@ pub fn wentuqis_convert_region_with_set(
         u_to_blue,
         chroma_centre,
     };
-    let reply = pixel_convert::convert_region_with_set(
+    boundary::reply_number(pixel_convert::convert_region_with_set(
         dst, dst_format, src, src_format, region, numbers,
-    );
-    reply.number()
+    ))
 }
 
 // ---- YUV
@@ -198,12 +197,8 @@ pub fn wentuqis_d3dcolor_fill_pixel_bytes(
     ensures values { bytes.new ≡ (fill_of color format).bytes }
     ensures counted { length.new ≡ (fill_of color format).len }
 {
-    let p = convert::d3dcolor_fill_pixel_bytes(color, format);
-    let pixel = p.bytes;
-    *bytes = pixel;
-    *length = p.len as u32;
-    let reply = p.reply;
-    boundary::fill_number(reply)
+    let fill = convert::d3dcolor_fill_pixel_bytes(color, format);
+    boundary::put_fill(fill, bytes, length)
 }
 
 // No refusal: byte i becomes byte i mod n of a pattern of n bytes; an empty pattern leaves every byte.
@@ -263,8 +258,14 @@ pub fn wentuqis_unpack(
         depth_pitch,
         stencil_pitch,
     };
-    let reply = depth_pictures::unpack(layout, format, packed, packed_pitch, depth, stencil);
-    reply.number()
+    boundary::reply_number(depth_pictures::unpack(
+        layout,
+        format,
+        packed,
+        packed_pitch,
+        depth,
+        stencil,
+    ))
 }
 
 // Refusals 9 to 13.
@@ -290,6 +291,12 @@ pub fn wentuqis_pack(
         depth_pitch,
         stencil_pitch,
     };
-    let reply = depth_pictures::pack(layout, format, depth, stencil, packed, packed_pitch);
-    reply.number()
+    boundary::reply_number(depth_pictures::pack(
+        layout,
+        format,
+        depth,
+        stencil,
+        packed,
+        packed_pitch,
+    ))
 }

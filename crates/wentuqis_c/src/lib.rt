@@ -1,5 +1,6 @@
 // The static library that Rust and C link: the calls of crates/wentuqis under the same names and with the same clauses, which say
 // what each refuses. Nothing is asked of a caller that Rattle can see.
+// Each call stands here and in crates/wentuqis, since the C interface needs the exported names.
 #![tactic(auto)]
 
 ghost use Rattle.std.specs.Prelude.{◌≡◌, [], ◌∷◌, ◌≤◌, ◌<◌, length, get_or};

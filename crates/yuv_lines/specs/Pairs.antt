@@ -10,43 +10,47 @@ use Rattle.stretch_rect.specs.Yuv.{rgb_of}
 use Rattle.yuv_parts.specs.Parts.{joined, joined_set}
 use Rattle.yuv_parts.specs.Lines.{luma_base_of, chroma_base_of, on_line, luma_line, chroma_line, luma_base_small, chroma_base_small}
 use Rattle.regions.specs.Regions.{opaque_of}
+use Rattle.yuv_lines.specs.declared.Line.{Line}
 use Rattle.yuv_lines.specs.declared.Lines.{Lines}
 use Rattle.yuv_lines.specs.declared.Samples.{Samples}
 use Rattle.yuv_lines.specs.declared.Pair.{Pair}
 
+-- the line of luma
+abbrev pub luma_of : (offset gain : ℕ) → Line
+luma_of o g = record { gain = g; base = luma_base_of o g }
+
+-- that of chroma by one gain
+abbrev pub chroma_of : (centre gain : ℕ) → Line
+chroma_of n g = record { gain = g; base = chroma_base_of n g }
+
 -- the lines of a set
 unfoldable pub lines_of : YuvSet → Lines
 lines_of s = record {
-  luma_gain = s.luma_gain;
-  luma_base = luma_base_of s.luma_offset s.luma_gain;
-  v_to_red = s.v_to_red;
-  v_red_base = chroma_base_of s.chroma_centre s.v_to_red;
-  u_to_green = s.u_to_green;
-  u_green_base = chroma_base_of s.chroma_centre s.u_to_green;
-  v_to_green = s.v_to_green;
-  v_green_base = chroma_base_of s.chroma_centre s.v_to_green;
-  u_to_blue = s.u_to_blue;
-  u_blue_base = chroma_base_of s.chroma_centre s.u_to_blue;
+  luma = luma_of s.luma_offset s.luma_gain;
+  v_red = chroma_of s.chroma_centre s.v_to_red;
+  u_green = chroma_of s.chroma_centre s.u_to_green;
+  v_green = chroma_of s.chroma_centre s.v_to_green;
+  u_blue = chroma_of s.chroma_centre s.u_to_blue;
 }
 
 -- 32 bits have room for a line with such a gain and such a base
-pub record LineSized (gain base : ℕ) : Type 0 where
-  pub gain_most : gain ≤ 262143
-  pub base_most : base ≤ 67108864
+pub record LineSized (l : Line) : Type 0 where
+  pub gain_most : l.gain ≤ 262143
+  pub base_most : l.base ≤ 67108864
 
 -- and for five such lines
 pub record Sized (l : Lines) : Type 0 where
-  pub luma : LineSized l.luma_gain l.luma_base
-  pub v_red : LineSized l.v_to_red l.v_red_base
-  pub u_green : LineSized l.u_to_green l.u_green_base
-  pub v_green : LineSized l.v_to_green l.v_green_base
-  pub u_blue : LineSized l.u_to_blue l.u_blue_base
+  pub luma : LineSized l.luma
+  pub v_red : LineSized l.v_red
+  pub u_green : LineSized l.u_green
+  pub v_green : LineSized l.v_green
+  pub u_blue : LineSized l.u_blue
 
 -- the colour of a sample whose parts lie on lines
 unfoldable pub rgb_on : Lines → (y u v : ℕ) → Rgb
 rgb_on l y u v =
-    joined (on_line l.luma_gain l.luma_base y) (on_line l.v_to_red l.v_red_base v)
-    (on_line l.u_to_green l.u_green_base u) (on_line l.v_to_green l.v_green_base v) (on_line l.u_to_blue l.u_blue_base u)
+    joined (on_line l.luma.gain l.luma.base y) (on_line l.v_red.gain l.v_red.base v)
+    (on_line l.u_green.gain l.u_green.base u) (on_line l.v_green.gain l.v_green.base v) (on_line l.u_blue.gain l.u_blue.base u)
 
 -- the A8R8G8B8 word of a colour
 abbrev pub opaque_word : Rgb → ℕ
@@ -76,5 +80,5 @@ set_sized s h = record {
   u_blue = chroma s.u_to_blue h.u_to_blue;
 }
   where
-    chroma : (g : ℕ) → g ≤ 262143 → LineSized g (chroma_base_of s.chroma_centre g)
+    chroma : (g : ℕ) → g ≤ 262143 → LineSized (chroma_of s.chroma_centre g)
     chroma g hg = record { gain_most = hg; base_most = chroma_base_small s.chroma_centre g h.centre_most hg }

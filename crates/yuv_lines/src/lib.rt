@@ -9,25 +9,27 @@ ghost use Rattle.texels.specs.Texels.{encoded_of};
 ghost use Rattle.yuv_sets.specs.Legal.{Legal};
 ghost use Rattle.stretch_rect.specs.Yuv.{rgb_of};
 ghost use Rattle.yuv_parts.specs.Parts.{PartSize, joined};
-ghost use Rattle.yuv_parts.specs.Lines.{luma_base_of, chroma_base_of, on_line};
+ghost use Rattle.yuv_parts.specs.Lines.{on_line};
 ghost use Rattle.regions.specs.Regions.{opaque_of};
-ghost use Rattle.yuv_lines.specs.Pairs.{lines_of, rgb_on, Sized, pair_on};
+ghost use Rattle.yuv_lines.specs.Pairs.{luma_of, chroma_of, lines_of, rgb_on, LineSized, Sized, pair_on};
 
 use yuv_sets::YuvSet;
 
-// The line of each part: its gain, and the base that is taken from the product.
+// A line: its gain, and the base that is taken from the product.
+#[derive(Clone, Copy)]
+pub struct Line {
+    pub gain: u32,
+    pub base: u32,
+}
+
+// The line of each part.
 #[derive(Clone, Copy)]
 pub struct Lines {
-    pub luma_gain: u32,
-    pub luma_base: u32,
-    pub v_to_red: u32,
-    pub v_red_base: u32,
-    pub u_to_green: u32,
-    pub u_green_base: u32,
-    pub v_to_green: u32,
-    pub v_green_base: u32,
-    pub u_to_blue: u32,
-    pub u_blue_base: u32,
+    pub luma: Line,
+    pub v_red: Line,
+    pub u_green: Line,
+    pub v_green: Line,
+    pub u_blue: Line,
 }
 
 // The samples of two texels: a luma each, and the U and V that they share.
@@ -46,18 +48,30 @@ pub struct Pair {
     pub second: u32,
 }
 
-fn luma_base(offset: u32, gain: u32) -> u32
-    requires { (offset ≤ 4194303) × (gain ≤ 262143) }
-    ensures { result ≡ luma_base_of offset gain }
-{
-    ((offset as u64 * gain as u64 + 65535) / 65536) as u32
-}
+impl Line {
+    fn luma(offset: u32, gain: u32) -> Line
+        requires { (offset ≤ 4194303) × (gain ≤ 262143) }
+        ensures { result ≡ luma_of offset gain }
+    {
+        let base = ((offset as u64 * gain as u64 + 65535) / 65536) as u32;
+        Line { gain, base }
+    }
 
-fn chroma_base(centre: u32, gain: u32) -> u32
-    requires { (centre ≤ 256) × (gain ≤ 262143) }
-    ensures { result ≡ chroma_base_of centre gain }
-{
-    (centre * gain + 1) / 2
+    fn chroma(centre: u32, gain: u32) -> Line
+        requires { (centre ≤ 256) × (gain ≤ 262143) }
+        ensures { result ≡ chroma_of centre gain }
+    {
+        let base = (centre * gain + 1) / 2;
+        Line { gain, base }
+    }
+
+    // The part of a sample.
+    fn part(self, sample: u8) -> i32
+        requires { LineSized self }
+        ensures { result ≡ on_line self.gain self.base sample }
+    {
+        sample as i32 * self.gain as i32 - self.base as i32
+    }
 }
 
 // The lines of a set.
@@ -67,31 +81,13 @@ pub fn lines_of(numbers: YuvSet) -> Lines
     ensures colours { (y u v : ℕ) → rgb_on result y u v ≡ rgb_of numbers y u v }
 {
     let centre = numbers.chroma_centre;
-    let luma_base = luma_base(numbers.luma_offset, numbers.luma_gain);
-    let v_red_base = chroma_base(centre, numbers.v_to_red);
-    let u_green_base = chroma_base(centre, numbers.u_to_green);
-    let v_green_base = chroma_base(centre, numbers.v_to_green);
-    let u_blue_base = chroma_base(centre, numbers.u_to_blue);
     Lines {
-        luma_gain: numbers.luma_gain,
-        luma_base,
-        v_to_red: numbers.v_to_red,
-        v_red_base,
-        u_to_green: numbers.u_to_green,
-        u_green_base,
-        v_to_green: numbers.v_to_green,
-        v_green_base,
-        u_to_blue: numbers.u_to_blue,
-        u_blue_base,
+        luma: Line::luma(numbers.luma_offset, numbers.luma_gain),
+        v_red: Line::chroma(centre, numbers.v_to_red),
+        u_green: Line::chroma(centre, numbers.u_to_green),
+        v_green: Line::chroma(centre, numbers.v_to_green),
+        u_blue: Line::chroma(centre, numbers.u_to_blue),
     }
-}
-
-// A part of a colour.
-fn on_line(sample: u8, gain: u32, base: u32) -> i32
-    requires { (gain ≤ 262143) × (base ≤ 67108864) }
-    ensures { result ≡ on_line gain base sample }
-{
-    sample as i32 * gain as i32 - base as i32
 }
 
 // The A8R8G8B8 word of the colour that five parts make.
@@ -108,12 +104,12 @@ pub fn pair_words(lines: Lines, s: Samples) -> Pair
     requires { Sized lines }
     ensures { result ≡ pair_on lines s }
 {
-    let v_red = on_line(s.v, lines.v_to_red, lines.v_red_base);
-    let u_green = on_line(s.u, lines.u_to_green, lines.u_green_base);
-    let v_green = on_line(s.v, lines.v_to_green, lines.v_green_base);
-    let u_blue = on_line(s.u, lines.u_to_blue, lines.u_blue_base);
-    let luma = on_line(s.first, lines.luma_gain, lines.luma_base);
-    let next_luma = on_line(s.second, lines.luma_gain, lines.luma_base);
+    let v_red = lines.v_red.part(s.v);
+    let u_green = lines.u_green.part(s.u);
+    let v_green = lines.v_green.part(s.v);
+    let u_blue = lines.u_blue.part(s.u);
+    let luma = lines.luma.part(s.first);
+    let next_luma = lines.luma.part(s.second);
     let first = word_of(luma, v_red, u_green, v_green, u_blue);
     let second = word_of(next_luma, v_red, u_green, v_green, u_blue);
     Pair { first, second }

@@ -2,10 +2,10 @@
 // and one behind the last, go alone. Ported from pixel_convert.rs of athei/mtld3d (an altered version, see NOTICE).
 #![tactic(auto)]
 
-ghost use Rattle.std.specs.Prelude.{◌≡◌, true, ◌+◌, ◌*◌, ◌/◌, ◌%◌, ◌≤◌, ◌<◌, min, length};
+ghost use Rattle.std.specs.Prelude.{◌≡◌, true, ◌+◌, ◌*◌, ◌/◌, ◌%◌, ◌≤◌, ◌<◌, length};
 ghost use Rattle.words.specs.Iterate.{iterate};
 ghost use Rattle.formats.specs.Table.{bytes_of};
-ghost use Rattle.formats.specs.Classes.{is_yuv, is_convertible_rgb};
+ghost use Rattle.formats.specs.Formats.{rgb_code, packed_yuv_code, planar_yuv_code, yuv_code};
 ghost use Rattle.planar_yuv.specs.Answers.{layout_of, from_pitch, TexelOf};
 ghost use Rattle.places.specs.Places.{places_at, places_in};
 ghost use Rattle.places.specs.Planar.{LayoutFor};
@@ -20,7 +20,7 @@ ghost use Rattle.yuv_pair_rows.specs.Samples.{packed_pair, planar_pair, pair_at}
 ghost use Rattle.yuv_pair_rows.specs.PairWords.{run_word};
 
 use convert_reply::ConvertRegion;
-use formats::D3DFMT_YUY2;
+use formats::{PackedYuv, PlanarYuv, RgbFormat, YuvFormat};
 use planar_yuv::PlanarYuvLayout;
 use yuv_lines::Lines;
 use yuv_sets::YuvSet;
@@ -34,39 +34,39 @@ struct PairPlaces {
 }
 
 // Those of the macropixel that starts at byte `from`.
-fn packed_places(d3d_format: u32, from: usize) -> PairPlaces
+fn packed_places(format: PackedYuv, from: usize) -> PairPlaces
     requires { from + 3 ≤ 18446744073709551615 }
-    ensures { result ≡ packed_pair d3d_format from }
+    ensures { result ≡ packed_pair (packed_yuv_code format) from }
 {
-    if d3d_format == D3DFMT_YUY2 {
-        return PairPlaces {
+    match format {
+        PackedYuv::YUY2 => PairPlaces {
             luma: from,
             u: from + 1,
             v: from + 3,
-        };
-    }
-    PairPlaces {
-        luma: from + 1,
-        u: from,
-        v: from + 2,
+        },
+        PackedYuv::UYVY => PairPlaces {
+            luma: from + 1,
+            u: from,
+            v: from + 2,
+        },
     }
 }
 
 // Those of the texel at column x and row y of a planar frame.
-fn planar_places(d3d_format: u32, layout: PlanarYuvLayout, y: usize, x: usize) -> PairPlaces
+fn planar_places(format: PlanarYuv, layout: PlanarYuvLayout, y: usize, x: usize) -> PairPlaces
     requires { TexelOf layout x y }
-    ensures { result ≡ planar_pair d3d_format layout.pitch layout.luma_rows y x }
+    ensures { result ≡ planar_pair (planar_yuv_code format) layout.pitch layout.luma_rows y x }
 {
     let luma = layout.luma_offset(x, y);
-    let u = places::u_offset(d3d_format, layout, x, y);
-    let v = places::v_offset(d3d_format, layout, x, y);
+    let u = places::u_offset(format, layout, x, y);
+    let v = places::v_offset(format, layout, x, y);
     PairPlaces { luma, u, v }
 }
 
 // Those of the pair at slice z, row y and column x, which is even; `layout` is a planar source's.
 fn pair_places(
     src: &[u8],
-    d3d_format: u32,
+    format: YuvFormat,
     layout: PlanarYuvLayout,
     pitch: usize,
     slice_pitch: usize,
@@ -74,35 +74,30 @@ fn pair_places(
     y: usize,
     x: usize,
 ) -> PairPlaces
-    requires { (is_yuv d3d_format ≡ true) × (x % 2 ≡ 0) × (layout ≡ layout_of (from_pitch d3d_format pitch (slice_pitch / pitch))) × (LayoutFor d3d_format pitch (slice_pitch / pitch) layout) × (places_in (length src.now) (places_at d3d_format pitch slice_pitch z y x) ≡ true) }
-    ensures { result ≡ pair_at d3d_format pitch slice_pitch z y x }
+    requires { (x % 2 ≡ 0) × (layout ≡ layout_of (from_pitch (yuv_code format) pitch (slice_pitch / pitch))) × (LayoutFor (yuv_code format) pitch (slice_pitch / pitch) layout) × (places_in (length src.now) (places_at (yuv_code format) pitch slice_pitch z y x) ≡ true) }
+    ensures { result ≡ pair_at (yuv_code format) pitch slice_pitch z y x }
 {
-    if formats::is_planar_yuv(d3d_format) {
-        return planar_places(d3d_format, layout, y, x);
+    match format {
+        YuvFormat::Packed(packed) => {
+            packed_places(packed, z * slice_pitch + y * pitch + x / 2 * 4)
+        }
+        YuvFormat::Planar(planar) => planar_places(planar, layout, y, x),
     }
-    packed_places(d3d_format, z * slice_pitch + y * pitch + x / 2 * 4)
-}
-
-// How many pairs the next block takes: 32, or those that are left.
-fn next_block(left: usize) -> usize
-    ensures { result ≡ min left 32 }
-{
-    if left < 32 { left } else { 32 }
 }
 
 // The texels of so many pairs, from byte `first_to` of the destination on, block by block. Every offset is carried.
 fn write_pairs(
     dst: &mut [u8],
-    dst_format: u32,
+    dst_format: RgbFormat,
     first_to: usize,
     src: &[u8],
-    src_format: u32,
+    src_format: YuvFormat,
     lines: Lines,
     at: PairPlaces,
     pairs: usize,
 )
-    requires { (is_yuv src_format ≡ true) × (is_convertible_rgb dst_format ≡ true) × Sized lines × Arranged src_format at.luma at.u at.v × PairsIn (length src.now) src_format at.luma at.u at.v pairs × (first_to + 2 * pairs * bytes_of dst_format ≤ length dst.old) }
-    ensures { dst.new ≡ iterate (word_written (run_word lines src.now src_format at.luma at.u at.v) dst_format first_to) (2 * pairs) dst.old }
+    requires { Sized lines × Arranged (yuv_code src_format) at.luma at.u at.v × PairsIn (length src.now) (yuv_code src_format) at.luma at.u at.v pairs × (first_to + 2 * pairs * bytes_of (rgb_code dst_format) ≤ length dst.old) }
+    ensures { dst.new ≡ iterate (word_written (run_word lines src.now (yuv_code src_format) at.luma at.u at.v) (rgb_code dst_format) first_to) (2 * pairs) dst.old }
 {
     let luma_step = yuv_pairs::luma_step(src_format);
     let chroma_step = yuv_pairs::chroma_step(src_format);
@@ -111,15 +106,13 @@ fn write_pairs(
     let mut u = at.u;
     let mut v = at.v;
     let mut to = first_to;
-    let mut done: usize = 0;
-    while done < pairs {
-        let n = next_block(pairs - done);
+    for done in (0..pairs).step_by(32) {
+        let n = (pairs - done).min(32);
         yuv_pairs::read_pairs(&mut block[..], n, src, src_format, lines, luma, u, v);
         to = blocks::write_texels(&block[..], 2 * n, dst, dst_format, to);
         luma += n * luma_step;
         u += n * chroma_step;
         v += n * chroma_step;
-        done += n;
     }
 }
 
@@ -127,18 +120,18 @@ fn write_pairs(
 fn pair_run(
     numbers: YuvSet,
     dst: &mut [u8],
-    dst_format: u32,
+    dst_format: RgbFormat,
     to_size: usize,
     src: &[u8],
-    src_format: u32,
+    src_format: YuvFormat,
     region: ConvertRegion,
     z: usize,
     row: usize,
     first: usize,
     pairs: usize,
 )
-    requires { (RowFits (length src.now) (length dst.old) src_format dst_format region z row) × (is_yuv src_format ≡ true) × (to_size ≡ bytes_of dst_format) × Legal numbers × (first + 2 * pairs ≤ region.width) × ((region.src_x + first) % 2 ≡ 0) }
-    ensures { dst.new ≡ run_written numbers src.now src_format dst_format region z row first (2 * pairs) dst.old }
+    requires { (RowFits (length src.now) (length dst.old) (yuv_code src_format) (rgb_code dst_format) region z row) × (to_size ≡ bytes_of (rgb_code dst_format)) × Legal numbers × (first + 2 * pairs ≤ region.width) × ((region.src_x + first) % 2 ≡ 0) }
+    ensures { dst.new ≡ run_written numbers src.now (yuv_code src_format) (rgb_code dst_format) region z row first (2 * pairs) dst.old }
 {
     if pairs == 0 {
         return;
@@ -162,16 +155,16 @@ fn pair_run(
 pub fn yuv_row(
     numbers: YuvSet,
     dst: &mut [u8],
-    dst_format: u32,
+    dst_format: RgbFormat,
     to_size: usize,
     src: &[u8],
-    src_format: u32,
+    src_format: YuvFormat,
     region: ConvertRegion,
     z: usize,
     row: usize,
 )
-    requires { (RowFits (length src.now) (length dst.old) src_format dst_format region z row) × (is_yuv src_format ≡ true) × (to_size ≡ bytes_of dst_format) × Legal numbers }
-    ensures { dst.new ≡ row_written numbers src.now src_format dst_format region z row dst.old }
+    requires { (RowFits (length src.now) (length dst.old) (yuv_code src_format) (rgb_code dst_format) region z row) × (to_size ≡ bytes_of (rgb_code dst_format)) × Legal numbers }
+    ensures { dst.new ≡ row_written numbers src.now (yuv_code src_format) (rgb_code dst_format) region z row dst.old }
 {
     let width = region.width as usize;
     let lead = region.src_x as usize % 2;

@@ -3,39 +3,50 @@
 // Ported from pixel_convert.rs of athei/mtld3d (an altered version, see NOTICE).
 #![tactic(auto)]
 
-ghost use Rattle.std.specs.Prelude.{◌≡◌, true, ◌+◌, ◌*◌, ◌≤◌, length};
-ghost use Rattle.formats.specs.Classes.{is_yuv};
+ghost use Rattle.std.specs.Prelude.{◌≡◌, ◌+◌, ◌*◌, ◌≤◌, length};
+ghost use Rattle.formats.specs.Formats.{packed_yuv_code, planar_yuv_code, yuv_code};
 ghost use Rattle.blocks.specs.Blocks.{TexelsIn};
 ghost use Rattle.yuv_lines.specs.Pairs.{Sized};
 ghost use Rattle.yuv_pairs.specs.Gathered.{two_bytes, Gathered, luma_step, luma_gap, chroma_step, Arranged, PairsIn, Coloured, PairsRead};
 
-use formats::{D3DFMT_NV12, D3DFMT_UYVY, D3DFMT_YUY2, D3DFMT_YV12};
+use formats::{PackedYuv, PlanarYuv, YuvFormat};
 use yuv_lines::{Lines, Samples};
 
 // ---- steps
 
 // How many bytes lie from a pair's first luma to that of the next pair.
-pub fn luma_step(d3d_format: u32) -> usize
-    ensures { result ≡ luma_step d3d_format }
+pub fn luma_step(format: YuvFormat) -> usize
+    ensures { result ≡ luma_step (yuv_code format) }
 {
-    if formats::is_packed_yuv(d3d_format) {
-        4
-    } else {
-        2
+    match format {
+        YuvFormat::Packed(_) => 4,
+        YuvFormat::Planar(_) => 2,
     }
 }
 
 // How many bytes lie from a pair's U to that of the next pair, and from V to V.
-pub fn chroma_step(d3d_format: u32) -> usize
-    ensures { result ≡ chroma_step d3d_format }
+pub fn chroma_step(format: YuvFormat) -> usize
+    ensures { result ≡ chroma_step (yuv_code format) }
 {
-    if formats::is_packed_yuv(d3d_format) {
-        return 4;
+    match format {
+        YuvFormat::Packed(_) => 4,
+        YuvFormat::Planar(planar) => planar_chroma_step(planar),
     }
-    if d3d_format == D3DFMT_YV12 { 1 } else { 2 }
+}
+
+// The same of planar frames: YV12 has a plane of each, NV12 one of both.
+fn planar_chroma_step(format: PlanarYuv) -> usize
+    ensures { result ≡ chroma_step (planar_yuv_code format) }
+{
+    match format {
+        PlanarYuv::YV12 => 1,
+        PlanarYuv::NV12 => 2,
+    }
 }
 
 // ---- gathering
+
+// Three loops stay: they differ in the step and in how a word is made, and one generic loop with three closures takes as many lines.
 
 // Bytes p and p + 2 of a macropixel's word.
 fn packed_word(m: u32, p: u32) -> u16
@@ -52,11 +63,9 @@ fn gather_packed(out: &mut [u16], n: usize, src: &[u8], from: usize, p: u32)
     ensures { Gathered src.now (from + p) (from + p + 2) 4 n out.new }
 {
     let mut at = from;
-    let mut i: usize = 0;
-    while i < n {
-        out[i] = packed_word(words::le32(&src[at..]), p);
+    for word in &mut out[..n] {
+        *word = packed_word(words::le32(&src[at..]), p);
         at += 4;
-        i += 1;
     }
 }
 
@@ -66,11 +75,9 @@ fn gather_words(out: &mut [u16], n: usize, src: &[u8], from: usize)
     ensures { Gathered src.now from (from + 1) 2 n out.new }
 {
     let mut at = from;
-    let mut i: usize = 0;
-    while i < n {
-        out[i] = words::le16(&src[at..]);
+    for word in &mut out[..n] {
+        *word = words::le16(&src[at..]);
         at += 2;
-        i += 1;
     }
 }
 
@@ -81,12 +88,31 @@ fn gather_planes(out: &mut [u16], n: usize, src: &[u8], first: usize, second: us
 {
     let mut a = first;
     let mut b = second;
-    let mut i: usize = 0;
-    while i < n {
-        out[i] = src[a] as u16 + src[b] as u16 * 256;
+    for word in &mut out[..n] {
+        *word = src[a] as u16 + src[b] as u16 * 256;
         a += 1;
         b += 1;
-        i += 1;
+    }
+}
+
+// Lumas and chromas change places between the two formats, so neither of these is the other with another constant.
+
+// The lumas of n pairs of macropixels.
+fn packed_lumas(
+    lumas: &mut [u16],
+    n: usize,
+    src: &[u8],
+    format: PackedYuv,
+    luma: usize,
+    u: usize,
+    v: usize,
+)
+    requires { (n ≤ length lumas.old) × Arranged (packed_yuv_code format) luma u v × PairsIn (length src.now) (packed_yuv_code format) luma u v n }
+    ensures { Gathered src.now luma (luma + luma_gap (packed_yuv_code format)) (luma_step (packed_yuv_code format)) n lumas.new }
+{
+    match format {
+        PackedYuv::YUY2 => gather_packed(lumas, n, src, luma, 0),
+        PackedYuv::UYVY => gather_packed(lumas, n, src, u, 1),
     }
 }
 
@@ -95,18 +121,55 @@ fn gather_lumas(
     lumas: &mut [u16],
     n: usize,
     src: &[u8],
-    d3d_format: u32,
+    format: YuvFormat,
     luma: usize,
     u: usize,
     v: usize,
 )
-    requires { (is_yuv d3d_format ≡ true) × (n ≤ length lumas.old) × Arranged d3d_format luma u v × PairsIn (length src.now) d3d_format luma u v n }
-    ensures { Gathered src.now luma (luma + luma_gap d3d_format) (luma_step d3d_format) n lumas.new }
+    requires { (n ≤ length lumas.old) × Arranged (yuv_code format) luma u v × PairsIn (length src.now) (yuv_code format) luma u v n }
+    ensures { Gathered src.now luma (luma + luma_gap (yuv_code format)) (luma_step (yuv_code format)) n lumas.new }
 {
-    match d3d_format {
-        D3DFMT_YUY2 => gather_packed(lumas, n, src, luma, 0),
-        D3DFMT_UYVY => gather_packed(lumas, n, src, u, 1),
-        _ => gather_words(lumas, n, src, luma),
+    match format {
+        YuvFormat::Packed(packed) => packed_lumas(lumas, n, src, packed, luma, u, v),
+        YuvFormat::Planar(_) => gather_words(lumas, n, src, luma),
+    }
+}
+
+// The U and V of n pairs of macropixels.
+fn packed_chromas(
+    chromas: &mut [u16],
+    n: usize,
+    src: &[u8],
+    format: PackedYuv,
+    luma: usize,
+    u: usize,
+    v: usize,
+)
+    requires { (n ≤ length chromas.old) × Arranged (packed_yuv_code format) luma u v × PairsIn (length src.now) (packed_yuv_code format) luma u v n }
+    ensures { Gathered src.now u v (chroma_step (packed_yuv_code format)) n chromas.new }
+{
+    match format {
+        PackedYuv::YUY2 => gather_packed(chromas, n, src, luma, 1),
+        PackedYuv::UYVY => gather_packed(chromas, n, src, u, 0),
+    }
+}
+
+// The U and V of n pairs of a planar frame.
+fn planar_chromas(
+    chromas: &mut [u16],
+    n: usize,
+    src: &[u8],
+    format: PlanarYuv,
+    luma: usize,
+    u: usize,
+    v: usize,
+)
+    requires { (n ≤ length chromas.old) × Arranged (planar_yuv_code format) luma u v × PairsIn (length src.now) (planar_yuv_code format) luma u v n }
+    ensures { Gathered src.now u v (chroma_step (planar_yuv_code format)) n chromas.new }
+{
+    match format {
+        PlanarYuv::YV12 => gather_planes(chromas, n, src, u, v),
+        PlanarYuv::NV12 => gather_words(chromas, n, src, u),
     }
 }
 
@@ -115,19 +178,17 @@ fn gather_chromas(
     chromas: &mut [u16],
     n: usize,
     src: &[u8],
-    d3d_format: u32,
+    format: YuvFormat,
     luma: usize,
     u: usize,
     v: usize,
 )
-    requires { (is_yuv d3d_format ≡ true) × (n ≤ length chromas.old) × Arranged d3d_format luma u v × PairsIn (length src.now) d3d_format luma u v n }
-    ensures { Gathered src.now u v (chroma_step d3d_format) n chromas.new }
+    requires { (n ≤ length chromas.old) × Arranged (yuv_code format) luma u v × PairsIn (length src.now) (yuv_code format) luma u v n }
+    ensures { Gathered src.now u v (chroma_step (yuv_code format)) n chromas.new }
 {
-    match d3d_format {
-        D3DFMT_YUY2 => gather_packed(chromas, n, src, luma, 1),
-        D3DFMT_UYVY => gather_packed(chromas, n, src, u, 0),
-        D3DFMT_NV12 => gather_words(chromas, n, src, u),
-        _ => gather_planes(chromas, n, src, u, v),
+    match format {
+        YuvFormat::Packed(packed) => packed_chromas(chromas, n, src, packed, luma, u, v),
+        YuvFormat::Planar(planar) => planar_chromas(chromas, n, src, planar, luma, u, v),
     }
 }
 
@@ -138,8 +199,7 @@ fn colour_pairs(block: &mut [u32], n: usize, lumas: &[u16], chromas: &[u16], lin
     requires { (2 * n ≤ length block.old) × (n ≤ length lumas.now) × (n ≤ length chromas.now) × Sized lines }
     ensures { Coloured lines lumas.now chromas.now n block.old block.new }
 {
-    let mut i: usize = 0;
-    while i < n {
+    for i in 0..n {
         let luma = lumas[i];
         let chroma = chromas[i];
         let samples = Samples {
@@ -151,7 +211,6 @@ fn colour_pairs(block: &mut [u32], n: usize, lumas: &[u16], chromas: &[u16], lin
         let pair = yuv_lines::pair_words(lines, samples);
         block[2 * i] = pair.first;
         block[2 * i + 1] = pair.second;
-        i += 1;
     }
 }
 
@@ -160,18 +219,18 @@ pub fn read_pairs(
     block: &mut [u32],
     n: usize,
     src: &[u8],
-    d3d_format: u32,
+    format: YuvFormat,
     lines: Lines,
     luma: usize,
     u: usize,
     v: usize,
 )
-    requires { (is_yuv d3d_format ≡ true) × (n ≤ 32) × (2 * n ≤ length block.old) × Sized lines × Arranged d3d_format luma u v × PairsIn (length src.now) d3d_format luma u v n }
-    ensures { PairsRead lines src.now d3d_format luma u v n block.old block.new }
+    requires { (n ≤ 32) × (2 * n ≤ length block.old) × Sized lines × Arranged (yuv_code format) luma u v × PairsIn (length src.now) (yuv_code format) luma u v n }
+    ensures { PairsRead lines src.now (yuv_code format) luma u v n block.old block.new }
 {
     let mut lumas = [0u16; 32];
     let mut chromas = [0u16; 32];
-    gather_lumas(&mut lumas[..], n, src, d3d_format, luma, u, v);
-    gather_chromas(&mut chromas[..], n, src, d3d_format, luma, u, v);
+    gather_lumas(&mut lumas[..], n, src, format, luma, u, v);
+    gather_chromas(&mut chromas[..], n, src, format, luma, u, v);
     colour_pairs(block, n, &lumas[..], &chromas[..], lines);
 }

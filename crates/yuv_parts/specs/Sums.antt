@@ -1,9 +1,9 @@
 -- Parts that a machine of w bits adds, takes away, rounds and clamps: what each step asks, and what it gives. Assumes nothing.
-use Rattle.std.specs.Prelude.{◌≡◌, refl, true, false, ℕ, ◌+◌, ◌^◌, ◌<◌, ◌≤◌, T, ℤ, pos, negsuc, nat_abs, ◌+ℤ◌, ◌-ℤ◌}
-use Rattle.std.proofs.Common.{sym, subst, arith, ltb-true, ltb-false}
-use Rattle.std.specs.Int.Signed.{lt_z, non_neg, shr_z}
-use Rattle.std.specs.Int.{Width, w8}
-use mir.Val.{hbits, Fits, SFits, to_z, of_z}
+use Rattle.std.specs.Prelude.{◌≡◌, refl, ℕ, ◌+◌, ◌^◌, ◌<◌, ◌≤◌, ℤ, pos, negsuc, ◌+ℤ◌, ◌-ℤ◌}
+use Rattle.std.proofs.Common.{sym, subst, arith}
+use Rattle.std.specs.Int.Signed.{shr_z}
+use Rattle.std.specs.Int.{Width, int_min, int_max}
+use mir.Val.{hbits, SFits, to_z, of_z}
 use Rattle.words.specs.Integers.{floor_div, clamp_to}
 use Rattle.yuv_parts.specs.Widths.{fit, asks, gives, shifted, kept}
 use Rattle.words.specs.Ranges.{Within, wider, plus, less, of_pos}
@@ -89,21 +89,8 @@ module _ {w : Width} {m : ℕ} (room : RoomFor w m) where
 pub same_rgb_lem : {p q : Rgb} → p.r ≡ q.r → p.g ≡ q.g → p.b ≡ q.b → p ≡ q
 same_rgb_lem red green blue = λ i. record { r = red i; g = green i; b = blue i }
 
--- ---- the clamp to a byte, by its two tests
-pub below : (z : ℤ) → lt_z z (pos 0) ≡ true → 0 ≡ clamp_to 255 z
+-- ---- the clamp to a byte: the library's is the definition's, and small
+pub byte_clamp : (z : ℤ) → (int_max (pos 0) (int_min z (pos 255)) ≡ pos (clamp_to 255 z)) × (clamp_to 255 z ≤ 255)
 unfolding clamp_to
-below (pos n) e = let h : n < 0 = ltb-true n 0 e in omega arith
-below (negsuc n) e = refl
-
-pub between : (z : ℤ) → lt_z z (pos 0) ≡ false → lt_z z (pos 255) ≡ true → T (non_neg z) × Fits w8 (nat_abs z) × (nat_abs z ≡ clamp_to 255 z)
-unfolding clamp_to
-between (pos n) d e = let h : n < 255 = ltb-true n 255 e in (tt, record { fits = omega arith }, omega arith)
-between (negsuc n) d e = absurd (no d)
-  where
-    no : true ≡ false → ⊥
-    no q = subst T q tt
-
-pub above : (z : ℤ) → lt_z z (pos 255) ≡ false → 255 ≡ clamp_to 255 z
-unfolding clamp_to
-above (pos n) e = let h : 255 ≤ n = ltb-false n 255 e in omega arith
-above (negsuc n) e = absurd (subst T e tt)
+byte_clamp (pos n) = (grind arith, omega arith)
+byte_clamp (negsuc n) = (refl, omega arith)

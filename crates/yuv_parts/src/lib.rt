@@ -15,14 +15,7 @@ fn to8(channel: i32) -> u8
     requires { Joined 67108864 channel }
     ensures { result ≡ clamp_to 255 (nearest_whole channel) }
 {
-    let n = (channel + 32768) >> 16;
-    if n < 0 {
-        return 0;
-    }
-    if n < 255 {
-        return n as u8;
-    }
-    255
+    ((channel + 32768) >> 16).clamp(0, 255) as u8
 }
 
 // The colour that five parts make.

@@ -19,6 +19,7 @@ pub struct YuvSet {
 }
 
 // Document 01's numbers.
+#[tactic(auto, using(crate::specs::Legal::bt601_rounded))]
 pub fn bt601() -> YuvSet
     ensures is { result ≡ sets.bt601 }
     ensures nearest { RoundedFrom 1164 16065 1596 392 813 2017 result }
@@ -35,6 +36,7 @@ pub fn bt601() -> YuvSet
 }
 
 // The numbers of ITU-R BT.709 for luma from 16 to 235 and chroma around 128.
+#[tactic(auto, using(crate::specs::Legal::bt709_rounded))]
 pub fn bt709() -> YuvSet
     ensures is { result ≡ sets.bt709 }
     ensures nearest { RoundedFrom 1164 16000 1793 213 533 2112 result }
@@ -57,29 +59,15 @@ fn is_gain(gain: u32) -> bool
 }
 
 // Whether every gain is below 4, the offset below 64, and the centre of the chroma 127.5 or 128.
+#[tactic(auto, unfolding(crate::specs::Sets::is_legal))]
 pub fn is_legal(numbers: YuvSet) -> bool
     ensures { result ≡ is_legal numbers }
 {
-    if !is_gain(numbers.luma_gain) {
-        return false;
-    }
-    if numbers.luma_offset > 4194303 {
-        return false;
-    }
-    if !is_gain(numbers.v_to_red) {
-        return false;
-    }
-    if !is_gain(numbers.u_to_green) {
-        return false;
-    }
-    if !is_gain(numbers.v_to_green) {
-        return false;
-    }
-    if !is_gain(numbers.u_to_blue) {
-        return false;
-    }
-    if numbers.chroma_centre == 255 {
-        return true;
-    }
-    numbers.chroma_centre == 256
+    is_gain(numbers.luma_gain)
+        && numbers.luma_offset <= 4194303
+        && is_gain(numbers.v_to_red)
+        && is_gain(numbers.u_to_green)
+        && is_gain(numbers.v_to_green)
+        && is_gain(numbers.u_to_blue)
+        && (numbers.chroma_centre == 255 || numbers.chroma_centre == 256)
 }

@@ -2,8 +2,7 @@
 use mathlib.Core.Path.{◌≡◌, sym, subst}
 use mathlib.Core.List.{List}
 use Prim.Native.Nat.{ℕ, ◌<◌}
-use native.Mathlib.Nat.{lt_of_lt_of_le}
-use lib.Dec.{T, leb, leb→le, lit<}
+use lib.Dec.{T, lit<}
 use lib.IntN.{ℤ, pos}
 use lib.ListN.{length, get_or}
 use mir.Syntax.{w32}
@@ -23,5 +22,5 @@ read_back_size p = subst PartSize (sym (read_back p)) p.range
 
 -- where a table follows a rule, a byte's entry is the rule's part
 module _ (rule : ℕ → ℤ) (xs : List ℤ) (k : ℕ) where
-  pub looked_up : T (leb 256 (length xs)) → T (follows rule xs) → k < 256 → PartSize (rule k) → back w32 (get_or xs k (pos 0)) ≡ rule k
-  looked_up long table byte size = read_back (record { is = entry_is rule xs table k (lt_of_lt_of_le byte (leb→le 256 (length xs) long)); range = size })
+  pub looked_up : length xs ≡ 256 → T (follows rule xs) → k < 256 → PartSize (rule k) → back w32 (get_or xs k (pos 0)) ≡ rule k
+  looked_up long table byte size = read_back (record { is = entry_is rule xs table k (subst (λ n. k < n) (sym long) byte); range = size })

@@ -2,9 +2,11 @@
 // From the YUV functions of stretch_rect.rs of athei/mtld3d (an altered version, see NOTICE).
 #![tactic(auto)]
 
-ghost use Rattle.std.specs.Prelude.{◌≡◌};
+ghost use Rattle.std.specs.Prelude.{◌≡◌, ℕ, ℤ, T};
 ghost use Rattle.yuv_sets.specs.Sets.{bt601};
-ghost use Rattle.stretch_rect.specs.Yuv.{luma_part, chroma_part, rgb_of, RgbNear, decimal_unit, decimal_slack, red_decimal, green_decimal, blue_decimal};
+ghost use Rattle.yuv_parts.specs.Parts.{PartSize};
+ghost use Rattle.yuv_tables.specs.Entries.{follows};
+ghost use Rattle.stretch_rect.specs.Yuv.{rgb_of, RgbNear, decimal_unit, decimal_slack, red_decimal, green_decimal, blue_decimal};
 
 use stretch_rect::Rgb;
 
@@ -164,34 +166,11 @@ const U_TO_BLUE: [i32; 256] = [
     15796227, 15928413, 16060599, 16192785, 16324971, 16457157, 16589343, 16721529, 16853715,
 ];
 
-fn luma_part(sample: u8) -> i32
-    ensures { result ≡ luma_part bt601.luma_offset bt601.luma_gain sample }
+// The entry of a sample in a table that follows a rule.
+fn entry(table: &[i32; 256], sample: u8) -> i32
+    ensures { (rule : ℕ → ℤ) → T (follows rule table.now) → PartSize (rule sample) → result ≡ rule sample }
 {
-    LUMA[sample as usize]
-}
-
-fn v_red_part(sample: u8) -> i32
-    ensures { result ≡ chroma_part bt601.chroma_centre bt601.v_to_red sample }
-{
-    V_TO_RED[sample as usize]
-}
-
-fn u_green_part(sample: u8) -> i32
-    ensures { result ≡ chroma_part bt601.chroma_centre bt601.u_to_green sample }
-{
-    U_TO_GREEN[sample as usize]
-}
-
-fn v_green_part(sample: u8) -> i32
-    ensures { result ≡ chroma_part bt601.chroma_centre bt601.v_to_green sample }
-{
-    V_TO_GREEN[sample as usize]
-}
-
-fn u_blue_part(sample: u8) -> i32
-    ensures { result ≡ chroma_part bt601.chroma_centre bt601.u_to_blue sample }
-{
-    U_TO_BLUE[sample as usize]
+    table[sample as usize]
 }
 
 // The colour of a sample by document 01's numbers.
@@ -199,10 +178,10 @@ pub fn yuv_to_rgb8_by_tables(luma: u8, cb: u8, cr: u8) -> Rgb
     ensures is { result ≡ rgb_of bt601 luma cb cr }
     ensures near { RgbNear decimal_unit decimal_slack (red_decimal luma cb cr) (green_decimal luma cb cr) (blue_decimal luma cb cr) result }
 {
-    let l = luma_part(luma);
-    let v_red = v_red_part(cr);
-    let u_green = u_green_part(cb);
-    let v_green = v_green_part(cr);
-    let u_blue = u_blue_part(cb);
+    let l = entry(&LUMA, luma);
+    let v_red = entry(&V_TO_RED, cr);
+    let u_green = entry(&U_TO_GREEN, cb);
+    let v_green = entry(&V_TO_GREEN, cr);
+    let u_blue = entry(&U_TO_BLUE, cb);
     yuv_parts::from_parts(l, v_red, u_green, v_green, u_blue)
 }

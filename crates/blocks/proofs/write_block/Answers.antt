@@ -1,74 +1,55 @@
 -- `blocks::write_block` meets its contract: texel by texel, with the offset carried. Assumes nothing.
-use mathlib.Core.Path.{refl, sym, ap, ◌∙◌, subst}
-use Prim.Native.Nat.{ℕ, ◌+◌, ◌≤◌}
-use native.Mathlib.Nat.{le_antisymm}
-use native.Mathlib.Omega.{arith}
-use lib.ListN.{length, length-take, length-drop}
-use lib.Seq.{length-sets}
+use Rattle.std.proofs.Common.{◌≡◌, ◌+◌, ◌*◌, ◌<◌, ◌≤◌, ℕ, length, length-take, length-drop, refl, sym, ap, ◌∙◌, arith}
+use lib.Seq.{sets, length-sets}
 use Rattle.words.specs.Iterate.{iterate_zero}
 use Rattle.formats.specs.Codes.{A8R8G8B8}
 use Rattle.formats.specs.Table.{bytes_of}
 use Rattle.texels.specs.Texels.{decoded_of, encoded_bytes}
 use Rattle.texels.specs.Words.{texel_back}
-use Rattle.blocks.specs.Blocks.{WordsWritten, word_of, write_more, each_in}
-use borrow.Author.Rules.{rules}
+use Rattle.formats.specs.Formats.{rgb_code}
+use Rattle.blocks.specs.Blocks.{write_more, each_in, once_more}
 use Rattle.blocks.proofs.write_block.Goals as goal
 
-pub loop-i-init : goal.loop-i-init
-loop-i-init c =
-    (record { bytes = sym (iterate_zero _ _); carried = omega arith }, search rules, refl)
+-- where there is room for n texels, there is room for the k-th
+room : (len now to size n k off : ℕ) → now ≡ len → to + n * size ≤ len → k < n → off ≡ to + k * size → off + size ≤ now
+room len now to size n k off s r l e = omega (arith, s, e, each_in len to size n r k l)
+
+pub loop-k-init : goal.loop-k-init
+loop-k-init g c = record {
+  carried = omega arith;
+  written = λ given gives. record { bytes = sym (iterate_zero _ _); carried = omega arith };
+  kept = refl;
+}
 
 pub slice_bounds-write_word-count : goal.slice_bounds-write_word-count
-slice_bounds-write_word-count c =
-    let room : c.loop-i.off + bytes_of c.args.d3d_format ≤ length c.loop-i.dst = let g = c.args in
-    let l = c.loop-i in
-    subst (λ (m : ℕ). l.off + bytes_of g.d3d_format ≤ m) (sym l.invariant.2)
-    (subst (λ (k : ℕ). k + bytes_of g.d3d_format ≤ length g.dst.now) (sym l.invariant.0.carried) (each_in (length g.dst.now) g.to (bytes_of g.d3d_format) g.n c.requires.3 l.i c.loop-i-test.true)) in
-    omega (arith, room)
+slice_bounds-write_word-count g c =
+    let l = c.loop-k in
+    omega (arith, room _ _ _ _ _ _ _ l.invariant.kept c.requires.room.1 c.loop-k-test.true l.invariant.carried)
 
 pub slice_bounds-write_word-start : goal.slice_bounds-write_word-start
-slice_bounds-write_word-start c =
-    let room : c.loop-i.off + bytes_of c.args.d3d_format ≤ length c.loop-i.dst = let g = c.args in
-    let l = c.loop-i in
-    subst (λ (m : ℕ). l.off + bytes_of g.d3d_format ≤ m) (sym l.invariant.2)
-    (subst (λ (k : ℕ). k + bytes_of g.d3d_format ≤ length g.dst.now) (sym l.invariant.0.carried) (each_in (length g.dst.now) g.to (bytes_of g.d3d_format) g.n c.requires.3 l.i c.loop-i-test.true)) in
-    omega (arith, room)
+slice_bounds-write_word-start g c =
+    let l = c.loop-k in
+    omega (arith, room _ _ _ _ _ _ _ l.invariant.kept c.requires.room.1 c.loop-k-test.true l.invariant.carried)
 
 pub write_word-requires : goal.write_word-requires
-write_word-requires c =
-    let room : c.loop-i.off + bytes_of c.args.d3d_format ≤ length c.loop-i.dst = let g = c.args in
-    let l = c.loop-i in
-    subst (λ (m : ℕ). l.off + bytes_of g.d3d_format ≤ m) (sym l.invariant.2)
-    (subst (λ (k : ℕ). k + bytes_of g.d3d_format ≤ length g.dst.now) (sym l.invariant.0.carried) (each_in (length g.dst.now) g.to (bytes_of g.d3d_format) g.n c.requires.3 l.i c.loop-i-test.true)) in
-    (c.requires.0, simp (length-take, length-drop) (omega (arith, room)))
+write_word-requires g c =
+    let l = c.loop-k in
+    (simp (length-take, length-drop) (omega (arith, room _ _ _ _ _ _ _ l.invariant.kept c.requires.room.1 c.loop-k-test.true l.invariant.carried)))
 
 pub overflow_add-off : goal.overflow_add-off
-overflow_add-off c =
-    let room : c.loop-i.off + bytes_of c.args.d3d_format ≤ length c.loop-i.dst = let g = c.args in
-    let l = c.loop-i in
-    subst (λ (m : ℕ). l.off + bytes_of g.d3d_format ≤ m) (sym l.invariant.2)
-    (subst (λ (k : ℕ). k + bytes_of g.d3d_format ≤ length g.dst.now) (sym l.invariant.0.carried) (each_in (length g.dst.now) g.to (bytes_of g.d3d_format) g.n c.requires.3 l.i c.loop-i-test.true)) in
-    omega (arith, room, c.requires.1)
+overflow_add-off g c =
+    let l = c.loop-k in
+    omega (arith, room _ _ _ _ _ _ _ l.invariant.kept c.requires.room.1 c.loop-k-test.true l.invariant.carried, c.requires.room.0)
 
-pub loop-i-preserved : goal.loop-i-preserved
-loop-i-preserved c =
-    let room : c.loop-i.off + bytes_of c.args.d3d_format ≤ length c.loop-i.dst = let g = c.args in
-    let l = c.loop-i in
-    subst (λ (m : ℕ). l.off + bytes_of g.d3d_format ≤ m) (sym l.invariant.2)
-    (subst (λ (k : ℕ). k + bytes_of g.d3d_format ≤ length g.dst.now) (sym l.invariant.0.carried) (each_in (length g.dst.now) g.to (bytes_of g.d3d_format) g.n c.requires.3 l.i c.loop-i-test.true)) in
-    let g = c.args in
-    let l = c.loop-i in
-    let dst = l.dst in
-    let w = word_of g.block.now l.i in
-    let e = texel_back dst g.d3d_format l.off (decoded_of A8R8G8B8 w) _ room c.write_word.ensures in (
-      write_more (word_of g.block.now) g.d3d_format g.size g.to l.i g.dst.now dst _ l.off c.requires.1 l.invariant.0 e,
-      omega (arith, c.loop-i-test.true),
-      ap length e ∙ length-sets dst l.off (encoded_bytes g.d3d_format (decoded_of A8R8G8B8 w)) ∙ l.invariant.2,
-    )
-
-pub returns : goal.returns
-returns c =
-    let g = c.args in
-    let l = c.loop-i in
-    let past = le_antisymm l.invariant.1 c.loop-i-test.false in
-    subst (λ (k : ℕ). WordsWritten (word_of g.block.now) g.d3d_format g.to k g.dst.now l.dst l.off) past l.invariant.0
+pub loop-k-preserved : goal.loop-k-preserved
+loop-k-preserved g c =
+    let a = c.args in
+    let l = c.loop-k in
+    let e = texel_back l.dst (rgb_code a.format) l.off (decoded_of A8R8G8B8 c.word.result) _ (room _ _ _ _ _ _ _ l.invariant.kept c.requires.room.1 c.loop-k-test.true l.invariant.carried) c.write_word.ensures in
+    record {
+      carried = ap (λ n. l.off + n) c.requires.room.0 ∙ once_more a.to (bytes_of (rgb_code a.format)) l.k l.off l.invariant.carried;
+      written = λ given gives.
+          write_more given (rgb_code a.format) a.size a.to l.k a.dst.now l.dst _ l.off c.requires.room.0 (l.invariant.written given gives)
+          (e ∙ ap (λ w. sets l.dst l.off (encoded_bytes (rgb_code a.format) (decoded_of A8R8G8B8 w))) (gives l.k c.word.result c.loop-k-test.true c.word.ensures));
+      kept = ap length e ∙ length-sets l.dst l.off (encoded_bytes (rgb_code a.format) (decoded_of A8R8G8B8 c.word.result)) ∙ l.invariant.kept;
+    }

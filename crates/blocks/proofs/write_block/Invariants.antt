@@ -1,11 +1,12 @@
-use mathlib.Core.Path.{◌≡◌}
-use Prim.Native.Nat.{◌-◌, ◌≤◌}
-use lib.ListN.{length}
-use Rattle.blocks.specs.Blocks.{WordsWritten, word_of}
+use Rattle.std.proofs.Common.{ℕ, ◌≡◌, ◌+◌, ◌*◌, length}
+use Rattle.formats.specs.Table.{bytes_of}
+use Rattle.formats.specs.Formats.{rgb_code}
+use Rattle.blocks.specs.Blocks.{WordsWritten, Gives}
 use Rattle.blocks.proofs.write_block.Given as goal
 
-abbrev pub invariant-loop-i : goal.invariant-loop-i
-invariant-loop-i l = WordsWritten (word_of l.block) l.d3d_format l.to l.i l.initial.dst l.dst l.off × (l.i ≤ l.n) × (length l.dst ≡ length l.initial.dst)
-
-abbrev pub decreases-loop-i : goal.decreases-loop-i
-decreases-loop-i l = l.n - l.i
+abbrev pub invariant-loop-k : goal.invariant-loop-k
+invariant-loop-k g l = record {
+  carried : l.off ≡ l.to + l.k * bytes_of (rgb_code l.format);
+  written : (given : ℕ → ℕ) → Gives (goal.W-post g l.word) l.n given → WordsWritten given (rgb_code l.format) l.to l.k l.initial.dst l.dst l.off;
+  kept : length l.dst ≡ length l.initial.dst;
+}

@@ -67,23 +67,23 @@ module _ (max : ℕ) where
 
 pub overflow_mul-scaled : goal.overflow_mul-scaled
 overflow_mul-scaled c =
-    omega (arith, product c.at_most-unit.result c.args.max c.requires)
+    omega (arith, product c.min-unit.result c.args.max c.requires)
 
 pub overflow_cast-scaled : goal.overflow_cast-scaled
 overflow_cast-scaled c =
-    omega (arith, product c.at_most-unit.result c.args.max c.requires)
+    omega (arith, product c.min-unit.result c.args.max c.requires)
 
 pub overflow_add-result : goal.overflow_add-result
 overflow_add-result c =
-    let u = c.at_most-unit.result in
-    omega (arith, product u c.args.max c.requires, div-le_self ((8388608 + u % 8388608) * c.args.max / 4194304) (2 ^ c.at_most.result))
+    let u = c.min-unit.result in
+    omega (arith, product u c.args.max c.requires, div-le_self ((8388608 + u % 8388608) * c.args.max / 4194304) (2 ^ c.min.result))
 
 pub returns : goal.returns
 returns c =
-    let u = c.at_most-unit.result in
+    let u = c.min-unit.result in
     let max = c.args.max in
     let number = c.number_bits.ensures in
-    ap (shifted max u) c.at_most.ensures
+    ap (shifted max u) c.min.ensures
     ∙ computed max u c.requires (omega arith)
-    ∙ ap (code max) c.at_most-unit.ensures
+    ∙ ap (code max) c.min-unit.ensures
     ∙ code_number max c.args.bits c.number_bits.result number.0 number.1

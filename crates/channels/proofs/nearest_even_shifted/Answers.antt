@@ -6,14 +6,14 @@ use native.Mathlib.Omega.{arith}
 use lib.Pow.{pow_pos, pow-lt}
 use lib.Ieee.Nearest.{closest}
 use Rattle.channels.specs.Even.{closest_added}
-use Rattle.channels.proofs.Shifts.{one_shifted}
+use Rattle.std.proofs.lemmas.Nat.{one_shl}
 use Rattle.channels.proofs.nearest_even_shifted.Goals as goal
 
 half_lt : (s : ℕ) → s < 62 → 2 ^ (s - 1) < 4611686018427387904
 half_lt s h = pow-lt {i = s - 1} {j = 62} (omega arith)
 
 half_shifted : (s : ℕ) → s < 62 → 1 * 2 ^ (s - 1) % 18446744073709551616 ≡ 2 ^ (s - 1)
-half_shifted s h = one_shifted (s - 1) (omega arith)
+half_shifted s h = one_shl (s - 1) 64 (omega arith)
 
 doubled : (s : ℕ) → 0 < s → 2 ^ s ≡ 2 * 2 ^ (s - 1)
 doubled s h =

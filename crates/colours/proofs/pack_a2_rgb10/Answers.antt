@@ -1,15 +1,15 @@
 -- `colours::pack_a2_rgb10` meets its contract: shifts and ors are sums, by `four` at the widths 2, 10, 10, 10. Assumes nothing.
 use native.Mathlib.Omega.{arith}
-use Rattle.colours.proofs.Lanes.{four, nearest_bits}
+use Rattle.colours.proofs.LaneWords.{four, nearest_bits}
 use borrow.Author.Rules.{rules}
 use Rattle.colours.proofs.pack_a2_rgb10.Goals as goal
 
 pub returns : goal.returns
 returns c =
-    let a = c.unorm8_to_unorm2 in
-    let h = c.unorm8_to_unorm10 in
-    let m = c.unorm8_to_unorm10-2 in
-    let l = c.unorm8_to_unorm10-3 in
+    let a = c.unorm8_to_nearest_code in
+    let h = c.unorm8_to_nearest_code-2 in
+    let m = c.unorm8_to_nearest_code-3 in
+    let l = c.unorm8_to_nearest_code-4 in
     omega (
       arith,
       four 32 2 10 10 10 a.result h.result m.result l.result (omega arith)

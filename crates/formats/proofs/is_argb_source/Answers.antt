@@ -1,17 +1,21 @@
--- `formats::is_argb_source` meets its contract: the first of the class's list, or one of the others. Assumes nothing.
-use borrow.Author.Tests.{ne_eqb}
+-- `formats::is_argb_source` meets its contract: such a source has binary32 channels or whole numbers. Assumes nothing.
+use Rattle.std.specs.Prelude.{◌||◌}
+use Rattle.std.proofs.Common.{sym, ap, ◌∙◌, eq-eqb, ne_eqb}
 use Rattle.formats.specs.Codes.{A32B32G32R32F}
-use Rattle.formats.specs.Classes.{code_sources, is_code_source, is_argb_source}
-use Rattle.formats.proofs.Arms.{here, later}
+use Rattle.formats.specs.Classes.{is_code_source}
+use Rattle.formats.proofs.Classified.{argb_parts}
 use Rattle.formats.proofs.is_argb_source.Goals as goal
 
-pub returns-then-d3d_format-eq-D3DFMT_A32B32G32R32F : goal.returns-then-d3d_format-eq-D3DFMT_A32B32G32R32F
-unfolding is_argb_source
+pub returns-then-d3d_format-eq-D3DFMT_A32B32G32R32F :
+    goal.returns-then-d3d_format-eq-D3DFMT_A32B32G32R32F
 returns-then-d3d_format-eq-D3DFMT_A32B32G32R32F c =
-    here c.args.d3d_format A32B32G32R32F code_sources c.if-d3d_format-eq-D3DFMT_A32B32G32R32F.true
-
-pub returns : goal.returns
-unfolding is_argb_source is_code_source
-returns c =
     let f = c.args.d3d_format in
-    later _ f A32B32G32R32F code_sources (ne_eqb f A32B32G32R32F c.if-d3d_format-eq-D3DFMT_A32B32G32R32F.false) c.is_code_source.ensures
+    let e = eq-eqb f A32B32G32R32F c.if-d3d_format-eq-D3DFMT_A32B32G32R32F.true in
+    e ∙ sym (ap (λ b. b || is_code_source f) e) ∙ argb_parts f
+
+pub returns-else-d3d_format-eq-D3DFMT_A32B32G32R32F :
+    goal.returns-else-d3d_format-eq-D3DFMT_A32B32G32R32F
+returns-else-d3d_format-eq-D3DFMT_A32B32G32R32F c =
+    let f = c.args.d3d_format in
+    let n = ne_eqb f A32B32G32R32F c.if-d3d_format-eq-D3DFMT_A32B32G32R32F.false in
+    c.is_code_source.ensures ∙ sym (ap (λ b. b || is_code_source f) n) ∙ argb_parts f

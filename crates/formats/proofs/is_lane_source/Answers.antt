@@ -1,17 +1,10 @@
--- `formats::is_lane_source` meets its contract: one class, or else the other. Assumes nothing.
-use mathlib.Core.Path.{sym, ap, ◌∙◌}
-use mathlib.Core.Bool.{◌||◌}
-use Rattle.formats.specs.Classes.{is_argb_source, is_lane_source}
+-- `formats::is_lane_source` meets its contract: a format was found where the code is of the class. Assumes nothing.
+use Rattle.std.proofs.Common.{◌∙◌}
+use Rattle.formats.specs.Classes.{is_lane_source}
+use Rattle.formats.specs.Formats.{lane_source_code, lane_source_is}
+use Rattle.formats.proofs.Classified.{found_class}
 use Rattle.formats.proofs.is_lane_source.Goals as goal
 
-pub returns-then-is_convertible_rgb : goal.returns-then-is_convertible_rgb
-unfolding is_lane_source
-returns-then-is_convertible_rgb c =
-    let f = c.args.d3d_format in
-    sym (ap (λ b. b || is_argb_source f) (sym c.is_convertible_rgb.ensures ∙ c.if-is_convertible_rgb.true))
-
 pub returns : goal.returns
-unfolding is_lane_source
 returns c =
-    let f = c.args.d3d_format in
-    c.is_argb_source.ensures ∙ sym (ap (λ b. b || is_argb_source f) (sym c.is_convertible_rgb.ensures ∙ c.if-is_convertible_rgb.false))
+    c.is_some.ensures ∙ found_class lane_source_code is_lane_source lane_source_is _ _ c.from_d3d.ensures

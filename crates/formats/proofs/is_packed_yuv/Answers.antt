@@ -1,16 +1,10 @@
--- `formats::is_packed_yuv` meets its contract: the arm's codes are the class's list. Assumes nothing.
-use mathlib.Core.List.{[], ◌∷◌}
-use Rattle.formats.specs.Codes.{YUY2, UYVY}
+-- `formats::is_packed_yuv` meets its contract: a format was found where the code is of the class. Assumes nothing.
+use Rattle.std.proofs.Common.{◌∙◌}
 use Rattle.formats.specs.Classes.{is_packed_yuv}
-use Rattle.formats.proofs.Arms.{listed_yes, listed_no}
+use Rattle.formats.specs.Formats.{packed_yuv_code, packed_yuv_is}
+use Rattle.formats.proofs.Classified.{found_class}
 use Rattle.formats.proofs.is_packed_yuv.Goals as goal
 
-pub returns-in-844715353 : goal.returns-in-844715353
-unfolding is_packed_yuv
-returns-in-844715353 c =
-    listed_yes (YUY2 ∷ UYVY ∷ []) c.args.d3d_format c.in-844715353.is
-
-pub returns-in_default : goal.returns-in_default
-unfolding is_packed_yuv
-returns-in_default c =
-    listed_no (YUY2 ∷ UYVY ∷ []) c.args.d3d_format c.in_default.in_default-own.rest.1
+pub returns : goal.returns
+returns c =
+    c.is_some.ensures ∙ found_class packed_yuv_code is_packed_yuv packed_yuv_is _ _ c.from_d3d.ensures

@@ -1,11 +1,14 @@
--- `formats::linear_row_pitch` meets its contract: the code computes the definition, and nothing wraps. Assumes nothing.
-use mathlib.Core.Path.{refl}
+-- `formats::linear_row_pitch` meets its contract: of the multiples of 4 one alone is less than 4 above the width. Assumes nothing.
+use mathlib.Core.Path.{◌≡◌, sym, subst}
 use native.Mathlib.Omega.{arith}
-use Rattle.words.specs.Multiples.{raised, raised_is}
+use Rattle.words.specs.Multiples.{Raised, raised, raised_is}
 use Rattle.formats.specs.Classes.{linear_row_pitch}
 use Rattle.formats.proofs.linear_row_pitch.Goals as goal
 
 pub returns : goal.returns
 unfolding linear_row_pitch raised
 returns c =
-    record { is = refl; raised = raised_is c.args.width 4 (omega arith) }
+    let w = c.args.width in
+    let r = c.next_multiple_of.result in
+    let e : r ≡ raised w 4 = omega (arith, c.next_multiple_of.ensures) in
+    record { is = e; raised = subst (Raised w 4) (sym e) (raised_is w 4 (omega arith)) }

@@ -7,4 +7,5 @@ use Rattle.splat.proofs.copy_block.Goals as goal
 pub returns : goal.returns
 returns c =
     let s = c.args in
-    copied s.dst.now c.put_block.new.out c.put_block-2.new.out s.at (s.at - s.back) (omega arith) (omega arith) c.put_block.ensures c.put_block-2.ensures
+    let front = rw c.unwrap.ensures at c.first_chunk.ensures.cases in
+    copied s.dst.now c.unwrap.result.now c.put_block.new.out s.at (s.at - s.back) (omega arith) (omega arith) front.same c.put_block.ensures

@@ -1,20 +1,34 @@
--- `stretch_rect::decode_packed_yuv` meets its contract: the code is one of the two. Assumes nothing.
-use mathlib.Core.Path.{◌≡◌}
-use mathlib.Core.Logic.{⊎_elim}
-use Rattle.formats.specs.Codes.{YUY2, UYVY}
-use Rattle.formats.specs.Classes.{is_packed_yuv}
+-- `stretch_rect::decode_packed_yuv` meets its contract: the bytes stand at their places in both formats. Assumes nothing.
+use Rattle.std.specs.Prelude.{◌≡◌, refl, ◌+◌, eqb}
+use Rattle.std.proofs.Common.{sym, ap, ◌∙◌}
+use Rattle.words.specs.Tests.{pick}
+use Rattle.formats.specs.Codes.{YUY2}
+use Rattle.formats.specs.Formats.{packed_yuv_code}
 use Rattle.stretch_rect.specs.Samples.{packed_rgb}
-use Rattle.stretch_rect.proofs.Codes.{at_code, one_of_two}
+use Rattle.stretch_rect.proofs.Places.{rgb_at}
 use Rattle.stretch_rect.proofs.decode_packed_yuv.Goals as goal
+use Rattle.stretch_rect.proofs.decode_packed_yuv.Goals.{then-odd, else-odd}
 
-pub returns-then-d3d_format-eq-D3DFMT_YUY2 : goal.returns-then-d3d_format-eq-D3DFMT_YUY2
-returns-then-d3d_format-eq-D3DFMT_YUY2 c =
+pub returns-in-YUY2 : goal.returns-in-YUY2
+unfolding packed_rgb
+returns-in-YUY2 c =
     let s = c.args in
-    at_code (λ f. packed_rgb s.numbers f s.macropixel.now s.odd) c.decode_yuy2.ensures c.if-d3d_format-eq-D3DFMT_YUY2.true
+    let code = ap (λ f. eqb (packed_yuv_code f) YUY2) c.in-YUY2.is in
+    let luma : c.if-odd.luma ≡ pick s.odd 2 0 =
+    elim c.if-odd.branch [
+      | then-odd w ↦ w.luma-is ∙ sym (ap (λ t. pick t 2 0) w.if-odd.true)
+      | else-odd w ↦ w.luma-is ∙ sym (ap (λ t. pick t 2 0) w.if-odd.false)
+    ] in
+    rw code (rgb_at s.numbers s.macropixel.now c.convert_with_set.ensures.is luma refl refl)
 
-pub returns : goal.returns
-unfolding is_packed_yuv
-returns c =
+pub returns-in-UYVY : goal.returns-in-UYVY
+unfolding packed_rgb
+returns-in-UYVY c =
     let s = c.args in
-    let code : s.d3d_format ≡ UYVY = ⊎_elim (λ e. absurd (c.if-d3d_format-eq-D3DFMT_YUY2.false e)) (λ e. e) (one_of_two s.d3d_format YUY2 UYVY c.requires.1) in
-    at_code (λ f. packed_rgb s.numbers f s.macropixel.now s.odd) c.decode_uyvy.ensures code
+    let code = ap (λ f. eqb (packed_yuv_code f) YUY2) c.in-UYVY.is in
+    let luma : c.if-odd.luma + 1 ≡ pick s.odd 3 1 =
+    elim c.if-odd.branch [
+      | then-odd w ↦ ap (λ n. n + 1) w.luma-is ∙ sym (ap (λ t. pick t 3 1) w.if-odd.true)
+      | else-odd w ↦ ap (λ n. n + 1) w.luma-is ∙ sym (ap (λ t. pick t 3 1) w.if-odd.false)
+    ] in
+    rw code (rgb_at s.numbers s.macropixel.now c.convert_with_set-in-UYVY.ensures.is luma refl refl)

@@ -1,35 +1,48 @@
--- `stretch_rect::decode_planar_yuv` meets its contract: the code is one of the two. Assumes nothing.
-use mathlib.Core.Path.{◌≡◌, subst}
-use mathlib.Core.Bool.{true}
-use mathlib.Core.Logic.{⊎_elim}
-use Prim.Native.Nat.{ℕ}
+-- `stretch_rect::decode_planar_yuv` meets its contract: the offsets are those of the definitions, and inside the frame. Assumes nothing.
+use Rattle.std.specs.Prelude.{◌≡◌, ℕ, ◌+◌}
+use Rattle.std.proofs.Common.{ap, ◌∙◌, arith}
 use Rattle.formats.specs.Codes.{NV12, YV12}
-use Rattle.formats.specs.Classes.{is_planar_yuv}
-use Rattle.stretch_rect.specs.Samples.{planar_rgb, Readable}
-use Rattle.stretch_rect.proofs.Codes.{at_code, one_of_two}
+use Rattle.formats.specs.Formats.{planar_yuv_code}
+use Rattle.stretch_rect.specs.Samples.{planar_rgb}
+use Rattle.stretch_rect.proofs.Places.{rgb_at}
+use Rattle.planar_yuv.proofs.ByFormat.{u_yv12, u_nv12, v_yv12, v_nv12}
 use Rattle.stretch_rect.proofs.decode_planar_yuv.Goals as goal
 
-code : (f : ℕ) → is_planar_yuv f ≡ true → (f ≡ YV12 → ⊥) → f ≡ NV12
-unfolding is_planar_yuv
-code f h n = ⊎_elim (λ e. e) (λ e. absurd (n e)) (one_of_two f NV12 YV12 h)
+-- a code is not that of YV12 if it is NV12's
+no_yv12 : {f : ℕ} → f ≡ NV12 → f ≡ YV12 → ⊥
+no_yv12 n y = omega (arith, n, y)
 
-pub decode_yv12-requires : goal.decode_yv12-requires
-decode_yv12-requires c =
-    let s = c.args in
-    (c.requires.0, subst (λ f. Readable f s.frame.now s.layout s.x s.y) c.if-d3d_format-eq-D3DFMT_YV12.true c.requires.2)
+pub bounds-frame-u : goal.bounds-frame-u
+bounds-frame-u c =
+    omega (arith, c.yv12_u_offset-u.ensures, u_yv12 _ c.args.layout.pitch c.args.layout.luma_rows c.args.x c.args.y (ap planar_yuv_code c.in-YV12.is), c.requires.1.u_read)
 
-pub returns-then-d3d_format-eq-D3DFMT_YV12 : goal.returns-then-d3d_format-eq-D3DFMT_YV12
-returns-then-d3d_format-eq-D3DFMT_YV12 c =
-    let s = c.args in
-    at_code (λ f. planar_rgb s.numbers f s.frame.now s.layout.pitch s.layout.luma_rows s.x s.y) c.decode_yv12.ensures c.if-d3d_format-eq-D3DFMT_YV12.true
+pub bounds-frame-v : goal.bounds-frame-v
+bounds-frame-v c =
+    omega (arith, c.yv12_v_offset-v.ensures, v_yv12 _ c.args.layout.pitch c.args.layout.luma_rows c.args.x c.args.y (ap planar_yuv_code c.in-YV12.is), c.requires.1.v_read)
 
-pub decode_nv12-requires : goal.decode_nv12-requires
-decode_nv12-requires c =
-    let s = c.args in
-    (c.requires.0, subst (λ f. Readable f s.frame.now s.layout s.x s.y) (code s.d3d_format c.requires.1 c.if-d3d_format-eq-D3DFMT_YV12.false) c.requires.2)
+pub bounds-frame-pair : goal.bounds-frame-pair
+bounds-frame-pair c =
+    omega (arith, c.nv12_uv_offset-pair.ensures, u_nv12 _ c.args.layout.pitch c.args.layout.luma_rows c.args.x c.args.y (no_yv12 (ap planar_yuv_code c.in-NV12.is)), c.requires.1.u_read)
 
-pub returns : goal.returns
-returns c =
-    let s = c.args in
-    at_code (λ f. planar_rgb s.numbers f s.frame.now s.layout.pitch s.layout.luma_rows s.x s.y) c.decode_nv12.ensures
-    (code s.d3d_format c.requires.1 c.if-d3d_format-eq-D3DFMT_YV12.false)
+pub overflow_add-pair : goal.overflow_add-pair
+overflow_add-pair c =
+    omega (arith, c.nv12_uv_offset-pair.ensures, v_nv12 _ c.args.layout.pitch c.args.layout.luma_rows c.args.x c.args.y (no_yv12 (ap planar_yuv_code c.in-NV12.is)), c.requires.1.v_read)
+
+pub bounds-frame-pair-in-NV12 : goal.bounds-frame-pair-in-NV12
+bounds-frame-pair-in-NV12 c =
+    omega (arith, c.nv12_uv_offset-pair.ensures, v_nv12 _ c.args.layout.pitch c.args.layout.luma_rows c.args.x c.args.y (no_yv12 (ap planar_yuv_code c.in-NV12.is)), c.requires.1.v_read)
+
+pub returns-in-YV12 : goal.returns-in-YV12
+unfolding planar_rgb
+returns-in-YV12 c =
+    let yv12 = (ap planar_yuv_code c.in-YV12.is) in
+    rgb_at c.args.numbers c.args.frame.now c.convert_with_set.ensures.is c.luma_offset-luma.ensures
+    (c.yv12_u_offset-u.ensures ∙ u_yv12 _ _ _ _ _ yv12) (c.yv12_v_offset-v.ensures ∙ v_yv12 _ _ _ _ _ yv12)
+
+pub returns-in-NV12 : goal.returns-in-NV12
+unfolding planar_rgb
+returns-in-NV12 c =
+    let nv12 = no_yv12 (ap planar_yuv_code c.in-NV12.is) in
+    let pair = c.nv12_uv_offset-pair.ensures in
+    rgb_at c.args.numbers c.args.frame.now c.convert_with_set-in-NV12.ensures.is c.luma_offset-luma.ensures
+    (pair ∙ u_nv12 _ _ _ _ _ nv12) (ap (λ n. n + 1) pair ∙ v_nv12 _ _ _ _ _ nv12)

@@ -12,17 +12,17 @@ pub returns : goal.returns
 unfolding encoded_of parts_of
 returns c =
     let t = c.args.t in
-    let v0 = c.truncate1-a1.result in
-    let e0 = c.truncate1-a1.ensures in
+    let v0 = c.truncate-a1.result in
+    let e0 = c.truncate-a1.ensures in
     let l0 = code_fits 1 t.a v0 (omega arith) (omega arith) e0 in
-    let v1 = c.truncate5-r5.result in
-    let e1 = c.truncate5-r5.ensures in
+    let v1 = c.truncate-r5.result in
+    let e1 = c.truncate-r5.ensures in
     let l1 = code_fits 5 t.r v1 (omega arith) (omega arith) e1 in
-    let v2 = c.truncate5-g5.result in
-    let e2 = c.truncate5-g5.ensures in
+    let v2 = c.truncate-g5.result in
+    let e2 = c.truncate-g5.ensures in
     let l2 = code_fits 5 t.g v2 (omega arith) (omega arith) e2 in
-    let v3 = c.truncate5-b5.result in
-    let e3 = c.truncate5-b5.ensures in
+    let v3 = c.truncate-b5.result in
+    let e3 = c.truncate-b5.ensures in
     let l3 = code_fits 5 t.b v3 (omega arith) (omega arith) e3 in
     let j2 = part_onto v2 5 5 (v3) l2 (omega arith) (omega arith) in
     let j1 = part_onto v1 5 10 (v2 * 32 + (v3)) l1 (omega arith) (omega arith) in

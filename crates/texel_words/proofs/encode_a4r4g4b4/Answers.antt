@@ -12,17 +12,17 @@ pub returns : goal.returns
 unfolding encoded_of parts_of
 returns c =
     let t = c.args.t in
-    let v0 = c.truncate4-a4.result in
-    let e0 = c.truncate4-a4.ensures in
+    let v0 = c.truncate-a4.result in
+    let e0 = c.truncate-a4.ensures in
     let l0 = code_fits 4 t.a v0 (omega arith) (omega arith) e0 in
-    let v1 = c.truncate4-r4.result in
-    let e1 = c.truncate4-r4.ensures in
+    let v1 = c.truncate-r4.result in
+    let e1 = c.truncate-r4.ensures in
     let l1 = code_fits 4 t.r v1 (omega arith) (omega arith) e1 in
-    let v2 = c.truncate4-g4.result in
-    let e2 = c.truncate4-g4.ensures in
+    let v2 = c.truncate-g4.result in
+    let e2 = c.truncate-g4.ensures in
     let l2 = code_fits 4 t.g v2 (omega arith) (omega arith) e2 in
-    let v3 = c.truncate4-b4.result in
-    let e3 = c.truncate4-b4.ensures in
+    let v3 = c.truncate-b4.result in
+    let e3 = c.truncate-b4.ensures in
     let l3 = code_fits 4 t.b v3 (omega arith) (omega arith) e3 in
     let j2 = part_onto v2 4 4 (v3) l2 (omega arith) (omega arith) in
     let j1 = part_onto v1 4 8 (v2 * 16 + (v3)) l1 (omega arith) (omega arith) in

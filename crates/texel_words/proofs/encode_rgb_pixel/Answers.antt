@@ -1,135 +1,127 @@
 -- `texel_words::encode_rgb_pixel` meets its contract: each arm stores the bytes of its format as one word. Assumes nothing.
-use mathlib.Core.Path.{refl, sym, ap, ◌∙◌}
-use mathlib.Core.Bool.{false≢true}
+use Rattle.std.proofs.Common.{refl, ap}
 use native.Mathlib.Omega.{arith}
-use Rattle.formats.specs.Classes.{rgb_formats, is_convertible_rgb}
 use Rattle.formats.specs.Table.{bytes_of, parts_of}
-use Rattle.formats.specs.Listed.{no_arm}
+use Rattle.formats.specs.Formats.{rgb_code}
 use Rattle.texel_words.proofs.Arms.{encode_arm}
 use Rattle.texel_words.proofs.encode_rgb_pixel.Goals as goal
 
 pub put24-requires : goal.put24-requires
 unfolding bytes_of parts_of
 put24-requires c =
-    omega (arith, c.requires.1, ap bytes_of c.in-20.is)
+    omega (arith, c.requires, ap (λ f. bytes_of (rgb_code f)) c.in-R8G8B8.is)
 
 pub put32-requires : goal.put32-requires
 unfolding bytes_of parts_of
 put32-requires c =
-    omega (arith, c.requires.1, ap bytes_of c.in-21.is)
+    omega (arith, c.requires, ap (λ f. bytes_of (rgb_code f)) c.in-A8R8G8B8.is)
 
-pub put32-requires-in-22 : goal.put32-requires-in-22
+pub put32-requires-in-X8R8G8B8 : goal.put32-requires-in-X8R8G8B8
 unfolding bytes_of parts_of
-put32-requires-in-22 c =
-    omega (arith, c.requires.1, ap bytes_of c.in-22.is)
+put32-requires-in-X8R8G8B8 c =
+    omega (arith, c.requires, ap (λ f. bytes_of (rgb_code f)) c.in-X8R8G8B8.is)
 
 pub put16-requires : goal.put16-requires
 unfolding bytes_of parts_of
 put16-requires c =
-    omega (arith, c.requires.1, ap bytes_of c.in-23.is)
+    omega (arith, c.requires, ap (λ f. bytes_of (rgb_code f)) c.in-R5G6B5.is)
 
-pub put16-requires-in-24 : goal.put16-requires-in-24
+pub put16-requires-in-X1R5G5B5 : goal.put16-requires-in-X1R5G5B5
 unfolding bytes_of parts_of
-put16-requires-in-24 c =
-    omega (arith, c.requires.1, ap bytes_of c.in-24.is)
+put16-requires-in-X1R5G5B5 c =
+    omega (arith, c.requires, ap (λ f. bytes_of (rgb_code f)) c.in-X1R5G5B5.is)
 
-pub put16-requires-in-25 : goal.put16-requires-in-25
+pub put16-requires-in-A1R5G5B5 : goal.put16-requires-in-A1R5G5B5
 unfolding bytes_of parts_of
-put16-requires-in-25 c =
-    omega (arith, c.requires.1, ap bytes_of c.in-25.is)
+put16-requires-in-A1R5G5B5 c =
+    omega (arith, c.requires, ap (λ f. bytes_of (rgb_code f)) c.in-A1R5G5B5.is)
 
-pub put16-requires-in-26 : goal.put16-requires-in-26
+pub put16-requires-in-A4R4G4B4 : goal.put16-requires-in-A4R4G4B4
 unfolding bytes_of parts_of
-put16-requires-in-26 c =
-    omega (arith, c.requires.1, ap bytes_of c.in-26.is)
+put16-requires-in-A4R4G4B4 c =
+    omega (arith, c.requires, ap (λ f. bytes_of (rgb_code f)) c.in-A4R4G4B4.is)
 
 pub put8-requires : goal.put8-requires
 unfolding bytes_of parts_of
 put8-requires c =
-    omega (arith, c.requires.1, ap bytes_of c.in-28.is)
+    omega (arith, c.requires, ap (λ f. bytes_of (rgb_code f)) c.in-A8.is)
 
-pub put32-requires-in-32 : goal.put32-requires-in-32
+pub put32-requires-in-A8B8G8R8 : goal.put32-requires-in-A8B8G8R8
 unfolding bytes_of parts_of
-put32-requires-in-32 c =
-    omega (arith, c.requires.1, ap bytes_of c.in-32.is)
+put32-requires-in-A8B8G8R8 c =
+    omega (arith, c.requires, ap (λ f. bytes_of (rgb_code f)) c.in-A8B8G8R8.is)
 
-pub put32-requires-in-33 : goal.put32-requires-in-33
+pub put32-requires-in-X8B8G8R8 : goal.put32-requires-in-X8B8G8R8
 unfolding bytes_of parts_of
-put32-requires-in-33 c =
-    omega (arith, c.requires.1, ap bytes_of c.in-33.is)
+put32-requires-in-X8B8G8R8 c =
+    omega (arith, c.requires, ap (λ f. bytes_of (rgb_code f)) c.in-X8B8G8R8.is)
 
-pub put8-requires-in-50 : goal.put8-requires-in-50
+pub put8-requires-in-L8 : goal.put8-requires-in-L8
 unfolding bytes_of parts_of
-put8-requires-in-50 c =
-    omega (arith, c.requires.1, ap bytes_of c.in-50.is)
+put8-requires-in-L8 c =
+    omega (arith, c.requires, ap (λ f. bytes_of (rgb_code f)) c.in-L8.is)
 
-pub put16-requires-in-51 : goal.put16-requires-in-51
+pub put16-requires-in-A8L8 : goal.put16-requires-in-A8L8
 unfolding bytes_of parts_of
-put16-requires-in-51 c =
-    omega (arith, c.requires.1, ap bytes_of c.in-51.is)
+put16-requires-in-A8L8 c =
+    omega (arith, c.requires, ap (λ f. bytes_of (rgb_code f)) c.in-A8L8.is)
 
-pub returns-in-20 : goal.returns-in-20
+pub returns-in-R8G8B8 : goal.returns-in-R8G8B8
 unfolding bytes_of parts_of
-returns-in-20 c =
-    encode_arm _ 20 3 _ _ _ _ c.in-20.is refl c.encode_r8g8b8.ensures c.put24.ensures
+returns-in-R8G8B8 c =
+    encode_arm _ 20 3 _ _ _ _ (ap rgb_code c.in-R8G8B8.is) refl c.encode_r8g8b8.ensures c.put24.ensures
 
-pub returns-in-21 : goal.returns-in-21
+pub returns-in-A8R8G8B8 : goal.returns-in-A8R8G8B8
 unfolding bytes_of parts_of
-returns-in-21 c =
-    encode_arm _ 21 4 _ _ _ _ c.in-21.is refl c.encode_a8r8g8b8.ensures c.put32.ensures
+returns-in-A8R8G8B8 c =
+    encode_arm _ 21 4 _ _ _ _ (ap rgb_code c.in-A8R8G8B8.is) refl c.encode_a8r8g8b8.ensures c.put32.ensures
 
-pub returns-in-22 : goal.returns-in-22
+pub returns-in-X8R8G8B8 : goal.returns-in-X8R8G8B8
 unfolding bytes_of parts_of
-returns-in-22 c =
-    encode_arm _ 22 4 _ _ _ _ c.in-22.is refl c.encode_x8r8g8b8.ensures c.put32-in-22.ensures
+returns-in-X8R8G8B8 c =
+    encode_arm _ 22 4 _ _ _ _ (ap rgb_code c.in-X8R8G8B8.is) refl c.encode_x8r8g8b8.ensures c.put32-in-X8R8G8B8.ensures
 
-pub returns-in-23 : goal.returns-in-23
+pub returns-in-R5G6B5 : goal.returns-in-R5G6B5
 unfolding bytes_of parts_of
-returns-in-23 c =
-    encode_arm _ 23 2 _ _ _ _ c.in-23.is refl c.encode_r5g6b5.ensures c.put16.ensures
+returns-in-R5G6B5 c =
+    encode_arm _ 23 2 _ _ _ _ (ap rgb_code c.in-R5G6B5.is) refl c.encode_r5g6b5.ensures c.put16.ensures
 
-pub returns-in-24 : goal.returns-in-24
+pub returns-in-X1R5G5B5 : goal.returns-in-X1R5G5B5
 unfolding bytes_of parts_of
-returns-in-24 c =
-    encode_arm _ 24 2 _ _ _ _ c.in-24.is refl c.encode_x1r5g5b5.ensures c.put16-in-24.ensures
+returns-in-X1R5G5B5 c =
+    encode_arm _ 24 2 _ _ _ _ (ap rgb_code c.in-X1R5G5B5.is) refl c.encode_x1r5g5b5.ensures c.put16-in-X1R5G5B5.ensures
 
-pub returns-in-25 : goal.returns-in-25
+pub returns-in-A1R5G5B5 : goal.returns-in-A1R5G5B5
 unfolding bytes_of parts_of
-returns-in-25 c =
-    encode_arm _ 25 2 _ _ _ _ c.in-25.is refl c.encode_a1r5g5b5.ensures c.put16-in-25.ensures
+returns-in-A1R5G5B5 c =
+    encode_arm _ 25 2 _ _ _ _ (ap rgb_code c.in-A1R5G5B5.is) refl c.encode_a1r5g5b5.ensures c.put16-in-A1R5G5B5.ensures
 
-pub returns-in-26 : goal.returns-in-26
+pub returns-in-A4R4G4B4 : goal.returns-in-A4R4G4B4
 unfolding bytes_of parts_of
-returns-in-26 c =
-    encode_arm _ 26 2 _ _ _ _ c.in-26.is refl c.encode_a4r4g4b4.ensures c.put16-in-26.ensures
+returns-in-A4R4G4B4 c =
+    encode_arm _ 26 2 _ _ _ _ (ap rgb_code c.in-A4R4G4B4.is) refl c.encode_a4r4g4b4.ensures c.put16-in-A4R4G4B4.ensures
 
-pub returns-in-28 : goal.returns-in-28
+pub returns-in-A8 : goal.returns-in-A8
 unfolding bytes_of parts_of
-returns-in-28 c =
-    encode_arm _ 28 1 _ _ _ _ c.in-28.is refl c.encode_a8.ensures c.put8.ensures
+returns-in-A8 c =
+    encode_arm _ 28 1 _ _ _ _ (ap rgb_code c.in-A8.is) refl c.encode_a8.ensures c.put8.ensures
 
-pub returns-in-32 : goal.returns-in-32
+pub returns-in-A8B8G8R8 : goal.returns-in-A8B8G8R8
 unfolding bytes_of parts_of
-returns-in-32 c =
-    encode_arm _ 32 4 _ _ _ _ c.in-32.is refl c.encode_a8b8g8r8.ensures c.put32-in-32.ensures
+returns-in-A8B8G8R8 c =
+    encode_arm _ 32 4 _ _ _ _ (ap rgb_code c.in-A8B8G8R8.is) refl c.encode_a8b8g8r8.ensures c.put32-in-A8B8G8R8.ensures
 
-pub returns-in-33 : goal.returns-in-33
+pub returns-in-X8B8G8R8 : goal.returns-in-X8B8G8R8
 unfolding bytes_of parts_of
-returns-in-33 c =
-    encode_arm _ 33 4 _ _ _ _ c.in-33.is refl c.encode_x8b8g8r8.ensures c.put32-in-33.ensures
+returns-in-X8B8G8R8 c =
+    encode_arm _ 33 4 _ _ _ _ (ap rgb_code c.in-X8B8G8R8.is) refl c.encode_x8b8g8r8.ensures c.put32-in-X8B8G8R8.ensures
 
-pub returns-in-50 : goal.returns-in-50
+pub returns-in-L8 : goal.returns-in-L8
 unfolding bytes_of parts_of
-returns-in-50 c =
-    encode_arm _ 50 1 _ _ _ _ c.in-50.is refl c.encode_l8.ensures c.put8-in-50.ensures
+returns-in-L8 c =
+    encode_arm _ 50 1 _ _ _ _ (ap rgb_code c.in-L8.is) refl c.encode_l8.ensures c.put8-in-L8.ensures
 
-pub returns-in-51 : goal.returns-in-51
+pub returns-in-A8L8 : goal.returns-in-A8L8
 unfolding bytes_of parts_of
-returns-in-51 c =
-    encode_arm _ 51 2 _ _ _ _ c.in-51.is refl c.encode_a8l8.ensures c.put16-in-51.ensures
-
-pub returns-in_default : goal.returns-in_default
-unfolding is_convertible_rgb
-returns-in_default c =
-    let f = c.args.d3d_format in
-    absurd (false≢true (sym (no_arm rgb_formats rgb_formats f c.in_default.in_default-own.rest tt) ∙ c.requires.0))
+returns-in-A8L8 c =
+    encode_arm _ 51 2 _ _ _ _ (ap rgb_code c.in-A8L8.is) refl c.encode_a8l8.ensures c.put16-in-A8L8.ensures

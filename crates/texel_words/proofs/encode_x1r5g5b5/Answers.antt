@@ -1,26 +1,11 @@
--- `texel_words::encode_x1r5g5b5` meets its contract: each channel is shifted onto bits that are clear. Assumes nothing.
+-- `texel_words::encode_x1r5g5b5` meets its contract: the lanes of A1R5G5B5, where X is all ones as a full alpha. Assumes nothing.
 use mathlib.Core.Path.{ap, ◌∙◌}
-use native.Mathlib.Omega.{arith}
-use Prim.Native.Nat.{◌+◌, ◌*◌, ◌%◌}
-use lib.Bits.{bit_or, or_shifted_r}
+use Rattle.formats.specs.Codes.{A1R5G5B5}
 use Rattle.formats.specs.Table.{parts_of}
 use Rattle.texels.specs.Texels.{encoded_of}
-use Rattle.texels.specs.Words.{part_onto, code_fits, padding_bit}
 use Rattle.texel_words.proofs.encode_x1r5g5b5.Goals as goal
 
 pub returns : goal.returns
 unfolding encoded_of parts_of
 returns c =
-    let t = c.args.t in
-    let v0 = c.truncate5-r5.result in
-    let e0 = c.truncate5-r5.ensures in
-    let l0 = code_fits 5 t.r v0 (omega arith) (omega arith) e0 in
-    let v1 = c.truncate5-g5.result in
-    let e1 = c.truncate5-g5.ensures in
-    let l1 = code_fits 5 t.g v1 (omega arith) (omega arith) e1 in
-    let v2 = c.truncate5-b5.result in
-    let e2 = c.truncate5-b5.ensures in
-    let l2 = code_fits 5 t.b v2 (omega arith) (omega arith) e2 in
-    let j1 = part_onto v1 5 5 (v2) l1 (omega arith) (omega arith) in
-    let j0 = part_onto v0 5 10 (v1 * 32 + (v2)) l0 (omega arith) (omega arith) in
-    ap (λ x. bit_or (bit_or (v0 * 1024 % 65536) x) 32768) j1 ∙ ap (λ x. bit_or x 32768) j0 ∙ or_shifted_r 1 15 (v0 * 1024 + (v1 * 32 + (v2))) (omega arith) ∙ omega (arith, e0, e1, e2, padding_bit)
+    c.encode_a1r5g5b5.ensures ∙ ap (encoded_of A1R5G5B5) c.opaque.ensures

@@ -11,4 +11,4 @@ pub returns : goal.returns
 unfolding colour_of decoded_of lane_of parts_of
 returns c =
     four_bytes c.unorm10_to_unorm8.ensures.is c.unorm10_to_unorm8-2.ensures.is
-    (c.unorm10_to_unorm8-3.ensures.is ∙ unshifted (λ k. rounded (255 * (k % 1024)) 1023) c.args.v) c.expand2.ensures
+    (c.unorm10_to_unorm8-3.ensures.is ∙ unshifted (λ k. rounded (255 * (k % 1024)) 1023) c.args.v) c.expand.ensures

@@ -10,4 +10,4 @@ use Rattle.texels.proofs.decode_a4r4g4b4.Goals as goal
 pub returns : goal.returns
 unfolding colour_of decoded_of lane_of parts_of
 returns c =
-    four_bytes c.expand4.ensures c.expand4-2.ensures (c.expand4-3.ensures ∙ unshifted (λ k. expanded 4 (k % 16)) c.args.v) c.expand4-4.ensures
+    four_bytes c.expand.ensures c.expand-2.ensures (c.expand-3.ensures ∙ unshifted (λ k. expanded 4 (k % 16)) c.args.v) c.expand-4.ensures

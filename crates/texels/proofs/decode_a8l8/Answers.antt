@@ -1,14 +1,16 @@
--- `texels::decode_a8l8` meets its contract: each shift and mask is the lane of the table. Assumes nothing.
-use mathlib.Core.Path.{◌∙◌}
-use Prim.Native.Nat.{◌%◌}
+-- `texels::decode_a8l8` meets its contract: each byte is the lane of the table. Assumes nothing.
+use mathlib.Core.Path.{ap}
+use Prim.Native.Nat.{ℕ, ◌/◌}
+use lib.ListN.{get_or}
 use Rattle.formats.specs.Table.{lane_of, parts_of}
-use Rattle.channels.specs.Expansion.{expanded}
 use Rattle.texels.specs.Texels.{decoded_of, colour_of}
-use Rattle.texels.proofs.Arms.{unshifted, four_bytes}
+use Rattle.texels.proofs.Arms.{whole_byte, lowest_byte, four_bytes}
 use Rattle.texels.proofs.decode_a8l8.Goals as goal
 
 pub returns : goal.returns
 unfolding colour_of decoded_of lane_of parts_of
 returns c =
-    let l = c.expand8-l.ensures ∙ unshifted (λ k. expanded 8 (k % 256)) c.args.v in
-    four_bytes l l l c.expand8.ensures
+    let v = c.args.v in
+    let byte = λ (i : ℕ). ap (λ bs. get_or bs i 0) c.to_le_bytes.ensures in
+    let l = lowest_byte v (byte 0) in
+    four_bytes l l l (whole_byte (v / 256) (byte 1))

@@ -1,84 +1,77 @@
 -- `texels::decode_code_source` meets its contract: each arm reads the bytes of its format as one word. Assumes nothing.
-use mathlib.Core.Path.{refl, sym, ap, ◌∙◌}
-use mathlib.Core.Bool.{false≢true}
+use Rattle.std.proofs.Common.{refl, ap}
 use native.Mathlib.Omega.{arith}
-use Rattle.formats.specs.Classes.{code_sources, is_code_source}
 use Rattle.formats.specs.Table.{bytes_of, parts_of}
-use Rattle.formats.specs.Listed.{no_arm}
+use Rattle.formats.specs.Formats.{code_source_code}
 use Rattle.texels.proofs.Arms.{decode_arm}
 use Rattle.texels.proofs.decode_code_source.Goals as goal
 
 pub decode_a16b16g16r16-requires : goal.decode_a16b16g16r16-requires
 unfolding bytes_of parts_of
 decode_a16b16g16r16-requires c =
-    omega (arith, c.requires.1, ap bytes_of c.in-36.is)
+    omega (arith, c.requires, ap (λ f. bytes_of (code_source_code f)) c.in-A16B16G16R16.is)
 
 pub le32-requires : goal.le32-requires
 unfolding bytes_of parts_of
 le32-requires c =
-    omega (arith, c.requires.1, ap bytes_of c.in-35.is)
+    omega (arith, c.requires, ap (λ f. bytes_of (code_source_code f)) c.in-A2R10G10B10.is)
 
-pub le32-requires-in-31 : goal.le32-requires-in-31
+pub le32-requires-in-A2B10G10R10 : goal.le32-requires-in-A2B10G10R10
 unfolding bytes_of parts_of
-le32-requires-in-31 c =
-    omega (arith, c.requires.1, ap bytes_of c.in-31.is)
+le32-requires-in-A2B10G10R10 c =
+    omega (arith, c.requires, ap (λ f. bytes_of (code_source_code f)) c.in-A2B10G10R10.is)
 
-pub le32-requires-in-34 : goal.le32-requires-in-34
+pub le32-requires-in-G16R16 : goal.le32-requires-in-G16R16
 unfolding bytes_of parts_of
-le32-requires-in-34 c =
-    omega (arith, c.requires.1, ap bytes_of c.in-34.is)
+le32-requires-in-G16R16 c =
+    omega (arith, c.requires, ap (λ f. bytes_of (code_source_code f)) c.in-G16R16.is)
 
 pub le16-requires : goal.le16-requires
 unfolding bytes_of parts_of
 le16-requires c =
-    omega (arith, c.requires.1, ap bytes_of c.in-81.is)
+    omega (arith, c.requires, ap (λ f. bytes_of (code_source_code f)) c.in-L16.is)
 
-pub le16-requires-in-60 : goal.le16-requires-in-60
+pub le16-requires-in-V8U8 : goal.le16-requires-in-V8U8
 unfolding bytes_of parts_of
-le16-requires-in-60 c =
-    omega (arith, c.requires.1, ap bytes_of c.in-60.is)
+le16-requires-in-V8U8 c =
+    omega (arith, c.requires, ap (λ f. bytes_of (code_source_code f)) c.in-V8U8.is)
 
-pub le32-requires-in-63 : goal.le32-requires-in-63
+pub le32-requires-in-Q8W8V8U8 : goal.le32-requires-in-Q8W8V8U8
 unfolding bytes_of parts_of
-le32-requires-in-63 c =
-    omega (arith, c.requires.1, ap bytes_of c.in-63.is)
+le32-requires-in-Q8W8V8U8 c =
+    omega (arith, c.requires, ap (λ f. bytes_of (code_source_code f)) c.in-Q8W8V8U8.is)
 
-pub returns-in-36 : goal.returns-in-36
+pub returns-in-A16B16G16R16 : goal.returns-in-A16B16G16R16
 unfolding bytes_of parts_of
-returns-in-36 c =
-    decode_arm _ 36 8 _ _ _ c.in-36.is refl refl c.decode_a16b16g16r16.ensures
+returns-in-A16B16G16R16 c =
+    decode_arm _ 36 8 _ _ _ (ap code_source_code c.in-A16B16G16R16.is) refl refl c.decode_a16b16g16r16.ensures
 
-pub returns-in-35 : goal.returns-in-35
+pub returns-in-A2R10G10B10 : goal.returns-in-A2R10G10B10
 unfolding bytes_of parts_of
-returns-in-35 c =
-    decode_arm _ 35 4 _ _ _ c.in-35.is refl c.le32.ensures c.decode_a2r10g10b10.ensures
+returns-in-A2R10G10B10 c =
+    decode_arm _ 35 4 _ _ _ (ap code_source_code c.in-A2R10G10B10.is) refl c.le32.ensures c.decode_a2r10g10b10.ensures
 
-pub returns-in-31 : goal.returns-in-31
+pub returns-in-A2B10G10R10 : goal.returns-in-A2B10G10R10
 unfolding bytes_of parts_of
-returns-in-31 c =
-    decode_arm _ 31 4 _ _ _ c.in-31.is refl c.le32-in-31.ensures c.decode_a2b10g10r10.ensures
+returns-in-A2B10G10R10 c =
+    decode_arm _ 31 4 _ _ _ (ap code_source_code c.in-A2B10G10R10.is) refl c.le32-in-A2B10G10R10.ensures c.decode_a2b10g10r10.ensures
 
-pub returns-in-34 : goal.returns-in-34
+pub returns-in-G16R16 : goal.returns-in-G16R16
 unfolding bytes_of parts_of
-returns-in-34 c =
-    decode_arm _ 34 4 _ _ _ c.in-34.is refl c.le32-in-34.ensures c.decode_g16r16.ensures
+returns-in-G16R16 c =
+    decode_arm _ 34 4 _ _ _ (ap code_source_code c.in-G16R16.is) refl c.le32-in-G16R16.ensures c.decode_g16r16.ensures
 
-pub returns-in-81 : goal.returns-in-81
+pub returns-in-L16 : goal.returns-in-L16
 unfolding bytes_of parts_of
-returns-in-81 c =
-    decode_arm _ 81 2 _ _ _ c.in-81.is refl c.le16.ensures c.decode_l16.ensures
+returns-in-L16 c =
+    decode_arm _ 81 2 _ _ _ (ap code_source_code c.in-L16.is) refl c.le16.ensures c.decode_l16.ensures
 
-pub returns-in-60 : goal.returns-in-60
+pub returns-in-V8U8 : goal.returns-in-V8U8
 unfolding bytes_of parts_of
-returns-in-60 c =
-    decode_arm _ 60 2 _ _ _ c.in-60.is refl c.le16-in-60.ensures c.decode_v8u8.ensures
+returns-in-V8U8 c =
+    decode_arm _ 60 2 _ _ _ (ap code_source_code c.in-V8U8.is) refl c.le16-in-V8U8.ensures c.decode_v8u8.ensures
 
-pub returns-in-63 : goal.returns-in-63
+pub returns-in-Q8W8V8U8 : goal.returns-in-Q8W8V8U8
 unfolding bytes_of parts_of
-returns-in-63 c =
-    decode_arm _ 63 4 _ _ _ c.in-63.is refl c.le32-in-63.ensures c.decode_q8w8v8u8.ensures
-
-pub returns-in_default : goal.returns-in_default
-unfolding is_code_source
-returns-in_default c =
-    absurd (false≢true (sym (no_arm code_sources code_sources c.args.d3d_format c.in_default.in_default-own.rest tt) ∙ c.requires.0))
+returns-in-Q8W8V8U8 c =
+    decode_arm _ 63 4 _ _ _ (ap code_source_code c.in-Q8W8V8U8.is) refl c.le32-in-Q8W8V8U8.ensures c.decode_q8w8v8u8.ensures

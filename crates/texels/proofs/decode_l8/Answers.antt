@@ -1,14 +1,13 @@
--- `texels::decode_l8` meets its contract: each shift and mask is the lane of the table. Assumes nothing.
-use mathlib.Core.Path.{refl, ◌∙◌}
-use Prim.Native.Nat.{◌%◌}
+-- `texels::decode_l8` meets its contract: the word is the lane of the table. Assumes nothing.
+use mathlib.Core.Path.{refl}
+use native.Mathlib.Omega.{arith}
 use Rattle.formats.specs.Table.{lane_of, parts_of}
-use Rattle.channels.specs.Expansion.{expanded}
 use Rattle.texels.specs.Texels.{decoded_of, colour_of}
-use Rattle.texels.proofs.Arms.{unshifted, four_bytes}
+use Rattle.texels.proofs.Arms.{lowest_byte, four_bytes}
 use Rattle.texels.proofs.decode_l8.Goals as goal
 
 pub returns : goal.returns
 unfolding colour_of decoded_of lane_of parts_of
 returns c =
-    let l = c.expand8-l.ensures ∙ unshifted (λ k. expanded 8 (k % 256)) c.args.v in
+    let l = lowest_byte c.args.v (omega (arith, c.ranges.v.fits)) in
     four_bytes l l l refl

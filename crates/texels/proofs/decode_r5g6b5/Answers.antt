@@ -10,4 +10,4 @@ use Rattle.texels.proofs.decode_r5g6b5.Goals as goal
 pub returns : goal.returns
 unfolding colour_of decoded_of lane_of parts_of
 returns c =
-    four_bytes c.expand5.ensures c.expand6.ensures (c.expand5-2.ensures ∙ unshifted (λ k. expanded 5 (k % 32)) c.args.v) refl
+    four_bytes c.expand.ensures c.expand-2.ensures (c.expand-3.ensures ∙ unshifted (λ k. expanded 5 (k % 32)) c.args.v) refl

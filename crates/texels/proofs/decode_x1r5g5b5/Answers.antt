@@ -1,13 +1,11 @@
--- `texels::decode_x1r5g5b5` meets its contract: each shift and mask is the lane of the table. Assumes nothing.
-use mathlib.Core.Path.{refl, ◌∙◌}
-use Prim.Native.Nat.{◌%◌}
+-- `texels::decode_x1r5g5b5` meets its contract: the lanes of A1R5G5B5, with no alpha. Assumes nothing.
+use mathlib.Core.Path.{◌∙◌}
 use Rattle.formats.specs.Table.{lane_of, parts_of}
-use Rattle.channels.specs.Expansion.{expanded}
 use Rattle.texels.specs.Texels.{decoded_of, colour_of}
-use Rattle.texels.proofs.Arms.{unshifted, four_bytes}
+use Rattle.texels.proofs.Arms.{opaque}
 use Rattle.texels.proofs.decode_x1r5g5b5.Goals as goal
 
 pub returns : goal.returns
 unfolding colour_of decoded_of lane_of parts_of
 returns c =
-    four_bytes c.expand5.ensures c.expand5-2.ensures (c.expand5-3.ensures ∙ unshifted (λ k. expanded 5 (k % 32)) c.args.v) refl
+    c.opaque.ensures ∙ opaque c.decode_a1r5g5b5.ensures

@@ -15,15 +15,10 @@ unfolding lines_of
 returns c =
     let s : YuvSet = c.args.numbers in
     let both = colours_too s (λ i. record {
-      luma_gain = s.luma_gain;
-      luma_base = c.luma_base-luma_base.ensures i;
-      v_to_red = s.v_to_red;
-      v_red_base = c.chroma_base-v_red_base.ensures i;
-      u_to_green = s.u_to_green;
-      u_green_base = c.chroma_base-u_green_base.ensures i;
-      v_to_green = s.v_to_green;
-      v_green_base = c.chroma_base-v_green_base.ensures i;
-      u_to_blue = s.u_to_blue;
-      u_blue_base = c.chroma_base-u_blue_base.ensures i;
+      luma = c.luma.ensures i;
+      v_red = c.chroma.ensures i;
+      u_green = c.chroma-2.ensures i;
+      v_green = c.chroma-3.ensures i;
+      u_blue = c.chroma-4.ensures i;
     }) in
     record { is = both.0; colours = both.1 }

@@ -11,14 +11,15 @@ use Rattle.yuv_parts.specs.Sums.{back, Part, RoomFor, part_is}
 use Rattle.yuv_parts.specs.Parts.{PartSize, joined}
 use Rattle.yuv_parts.specs.Lines.{on_line, line_small}
 use Rattle.regions.specs.Regions.{opaque_of}
+use Rattle.yuv_lines.specs.declared.Line.{Line}
 use Rattle.yuv_lines.specs.Pairs.{LineSized, rgb_on, pair_on}
 use Rattle.yuv_lines.proofs.pair_words.Goals as goal
 
 wide : RoomFor w32 67108864
 wide = record { room = lit< tt }
 
-on : {g b : ℕ} (c : ℕ) {x : ℤ} → c < 256 → LineSized g b → x ≡ on_line g b c → Part 67108864 x (on_line g b c)
-on {g} {b} c h l e = record { is = e; range = line_small g b c h l.gain_most l.base_most }
+on : {l : Line} (c : ℕ) {x : ℤ} → c < 256 → LineSized l → x ≡ on_line l.gain l.base c → Part 67108864 x (on_line l.gain l.base c)
+on {l} c h s e = record { is = e; range = line_small l.gain l.base c h s.gain_most s.base_most }
 
 sized : {x a : ℤ} → Part 67108864 x a → PartSize (back w32 x)
 sized p = subst (λ z. PartSize z) (sym (part_is wide p)) p.range
@@ -29,31 +30,31 @@ word_on_lem l vr ug vg ub = λ i. encoded_of A8R8G8B8 (opaque_of (joined (part_i
 
 pub word_of-first-requires : goal.word_of-first-requires
 word_of-first-requires c =
-    let v_red : Part 67108864 c.on_line-v_red.result (on_line c.args.lines.v_to_red c.args.lines.v_red_base c.args.s.v) = on c.args.s.v (omega arith) c.requires.v_red c.on_line-v_red.ensures in
-    let u_green : Part 67108864 c.on_line-u_green.result (on_line c.args.lines.u_to_green c.args.lines.u_green_base c.args.s.u) = on c.args.s.u (omega arith) c.requires.u_green c.on_line-u_green.ensures in
-    let v_green : Part 67108864 c.on_line-v_green.result (on_line c.args.lines.v_to_green c.args.lines.v_green_base c.args.s.v) = on c.args.s.v (omega arith) c.requires.v_green c.on_line-v_green.ensures in
-    let u_blue : Part 67108864 c.on_line-u_blue.result (on_line c.args.lines.u_to_blue c.args.lines.u_blue_base c.args.s.u) = on c.args.s.u (omega arith) c.requires.u_blue c.on_line-u_blue.ensures in
-    let luma : Part 67108864 c.on_line-luma.result (on_line c.args.lines.luma_gain c.args.lines.luma_base c.args.s.first) = on c.args.s.first (omega arith) c.requires.luma c.on_line-luma.ensures in
+    let v_red : Part 67108864 c.part-v_red.result (on_line c.args.lines.v_red.gain c.args.lines.v_red.base c.args.s.v) = on c.args.s.v (omega arith) c.requires.v_red c.part-v_red.ensures in
+    let u_green : Part 67108864 c.part-u_green.result (on_line c.args.lines.u_green.gain c.args.lines.u_green.base c.args.s.u) = on c.args.s.u (omega arith) c.requires.u_green c.part-u_green.ensures in
+    let v_green : Part 67108864 c.part-v_green.result (on_line c.args.lines.v_green.gain c.args.lines.v_green.base c.args.s.v) = on c.args.s.v (omega arith) c.requires.v_green c.part-v_green.ensures in
+    let u_blue : Part 67108864 c.part-u_blue.result (on_line c.args.lines.u_blue.gain c.args.lines.u_blue.base c.args.s.u) = on c.args.s.u (omega arith) c.requires.u_blue c.part-u_blue.ensures in
+    let luma : Part 67108864 c.part-luma.result (on_line c.args.lines.luma.gain c.args.lines.luma.base c.args.s.first) = on c.args.s.first (omega arith) c.requires.luma c.part-luma.ensures in
     (sized luma, sized v_red, sized u_green, sized v_green, sized u_blue)
 
 pub word_of-second-requires : goal.word_of-second-requires
 word_of-second-requires c =
-    let v_red : Part 67108864 c.on_line-v_red.result (on_line c.args.lines.v_to_red c.args.lines.v_red_base c.args.s.v) = on c.args.s.v (omega arith) c.requires.v_red c.on_line-v_red.ensures in
-    let u_green : Part 67108864 c.on_line-u_green.result (on_line c.args.lines.u_to_green c.args.lines.u_green_base c.args.s.u) = on c.args.s.u (omega arith) c.requires.u_green c.on_line-u_green.ensures in
-    let v_green : Part 67108864 c.on_line-v_green.result (on_line c.args.lines.v_to_green c.args.lines.v_green_base c.args.s.v) = on c.args.s.v (omega arith) c.requires.v_green c.on_line-v_green.ensures in
-    let u_blue : Part 67108864 c.on_line-u_blue.result (on_line c.args.lines.u_to_blue c.args.lines.u_blue_base c.args.s.u) = on c.args.s.u (omega arith) c.requires.u_blue c.on_line-u_blue.ensures in
-    let next_luma : Part 67108864 c.on_line-next_luma.result (on_line c.args.lines.luma_gain c.args.lines.luma_base c.args.s.second) = on c.args.s.second (omega arith) c.requires.luma c.on_line-next_luma.ensures in
+    let v_red : Part 67108864 c.part-v_red.result (on_line c.args.lines.v_red.gain c.args.lines.v_red.base c.args.s.v) = on c.args.s.v (omega arith) c.requires.v_red c.part-v_red.ensures in
+    let u_green : Part 67108864 c.part-u_green.result (on_line c.args.lines.u_green.gain c.args.lines.u_green.base c.args.s.u) = on c.args.s.u (omega arith) c.requires.u_green c.part-u_green.ensures in
+    let v_green : Part 67108864 c.part-v_green.result (on_line c.args.lines.v_green.gain c.args.lines.v_green.base c.args.s.v) = on c.args.s.v (omega arith) c.requires.v_green c.part-v_green.ensures in
+    let u_blue : Part 67108864 c.part-u_blue.result (on_line c.args.lines.u_blue.gain c.args.lines.u_blue.base c.args.s.u) = on c.args.s.u (omega arith) c.requires.u_blue c.part-u_blue.ensures in
+    let next_luma : Part 67108864 c.part-next_luma.result (on_line c.args.lines.luma.gain c.args.lines.luma.base c.args.s.second) = on c.args.s.second (omega arith) c.requires.luma c.part-next_luma.ensures in
     (sized next_luma, sized v_red, sized u_green, sized v_green, sized u_blue)
 
 pub returns : goal.returns
 unfolding pair_on rgb_on
 returns c =
-    let v_red : Part 67108864 c.on_line-v_red.result (on_line c.args.lines.v_to_red c.args.lines.v_red_base c.args.s.v) = on c.args.s.v (omega arith) c.requires.v_red c.on_line-v_red.ensures in
-    let u_green : Part 67108864 c.on_line-u_green.result (on_line c.args.lines.u_to_green c.args.lines.u_green_base c.args.s.u) = on c.args.s.u (omega arith) c.requires.u_green c.on_line-u_green.ensures in
-    let v_green : Part 67108864 c.on_line-v_green.result (on_line c.args.lines.v_to_green c.args.lines.v_green_base c.args.s.v) = on c.args.s.v (omega arith) c.requires.v_green c.on_line-v_green.ensures in
-    let u_blue : Part 67108864 c.on_line-u_blue.result (on_line c.args.lines.u_to_blue c.args.lines.u_blue_base c.args.s.u) = on c.args.s.u (omega arith) c.requires.u_blue c.on_line-u_blue.ensures in
-    let luma : Part 67108864 c.on_line-luma.result (on_line c.args.lines.luma_gain c.args.lines.luma_base c.args.s.first) = on c.args.s.first (omega arith) c.requires.luma c.on_line-luma.ensures in
-    let next_luma : Part 67108864 c.on_line-next_luma.result (on_line c.args.lines.luma_gain c.args.lines.luma_base c.args.s.second) = on c.args.s.second (omega arith) c.requires.luma c.on_line-next_luma.ensures in
+    let v_red : Part 67108864 c.part-v_red.result (on_line c.args.lines.v_red.gain c.args.lines.v_red.base c.args.s.v) = on c.args.s.v (omega arith) c.requires.v_red c.part-v_red.ensures in
+    let u_green : Part 67108864 c.part-u_green.result (on_line c.args.lines.u_green.gain c.args.lines.u_green.base c.args.s.u) = on c.args.s.u (omega arith) c.requires.u_green c.part-u_green.ensures in
+    let v_green : Part 67108864 c.part-v_green.result (on_line c.args.lines.v_green.gain c.args.lines.v_green.base c.args.s.v) = on c.args.s.v (omega arith) c.requires.v_green c.part-v_green.ensures in
+    let u_blue : Part 67108864 c.part-u_blue.result (on_line c.args.lines.u_blue.gain c.args.lines.u_blue.base c.args.s.u) = on c.args.s.u (omega arith) c.requires.u_blue c.part-u_blue.ensures in
+    let luma : Part 67108864 c.part-luma.result (on_line c.args.lines.luma.gain c.args.lines.luma.base c.args.s.first) = on c.args.s.first (omega arith) c.requires.luma c.part-luma.ensures in
+    let next_luma : Part 67108864 c.part-next_luma.result (on_line c.args.lines.luma.gain c.args.lines.luma.base c.args.s.second) = on c.args.s.second (omega arith) c.requires.luma c.part-next_luma.ensures in
     let one = c.word_of-first.ensures ∙ word_on_lem luma v_red u_green v_green u_blue in
     let two = c.word_of-second.ensures ∙ word_on_lem next_luma v_red u_green v_green u_blue in
     λ i. record { first = one i; second = two i }

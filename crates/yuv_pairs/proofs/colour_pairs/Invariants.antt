@@ -1,11 +1,7 @@
 use mathlib.Core.Path.{◌≡◌}
-use Prim.Native.Nat.{◌-◌, ◌≤◌}
 use lib.ListN.{length}
 use Rattle.yuv_pairs.specs.Gathered.{Coloured}
 use Rattle.yuv_pairs.proofs.colour_pairs.Given as goal
 
 abbrev pub invariant-loop-i : goal.invariant-loop-i
-invariant-loop-i l = Coloured l.lines l.lumas l.chromas l.i l.initial.block l.block × (l.i ≤ l.n) × (length l.block ≡ length l.initial.block)
-
-abbrev pub decreases-loop-i : goal.decreases-loop-i
-decreases-loop-i l = l.n - l.i
+invariant-loop-i l = Coloured l.lines l.lumas l.chromas l.i l.initial.block l.block × (length l.block ≡ length l.initial.block)

@@ -1,37 +1,35 @@
--- `yuv_pairs::gather_lumas` meets its contract: each arm gathers from where its format has the lumas. Assumes nothing.
-use mathlib.Core.Path.{sym, ap}
-use Prim.Native.Nat.{◌*◌}
-use native.Mathlib.Omega.{arith}
-use Rattle.yuv_pairs.specs.Gathered.{yuy2_steps, uyvy_steps, planar_lumas, gathered_at, luma_last, v_last}
+-- `yuv_pairs::gather_lumas` meets its contract: by the kind of the picture. Assumes nothing.
+use Rattle.std.proofs.Common.{◌≡◌, ◌*◌, sym, ap, subst, arith}
+use Rattle.formats.specs.Formats.{packed_yuv_code, planar_yuv_code, yuv_code}
+use Rattle.yuv_pairs.specs.Gathered.{luma_step, luma_gap, chroma_step, Gathered, yuy2_steps, uyvy_steps, nv12_steps, yv12_steps, gathered_at, luma_last, u_last, v_last}
+use Rattle.yuv_pairs.proofs.Steps.{planar_lumas}
+use Rattle.yuv_pairs.specs.Gathered.{Arranged, PairsIn}
+use Rattle.std.proofs.Common.{length, ◌+◌}
 use Rattle.yuv_pairs.proofs.gather_lumas.Goals as goal
 
-pub gather_packed-requires : goal.gather_packed-requires
-gather_packed-requires c =
-    let e = c.in-844715353.is in
-    (omega arith, c.requires.1, λ k h. omega (arith, v_last (yuy2_steps _ e) c.requires.3 k h, (c.requires.2.yuy2 e).1))
+pub packed_lumas-requires : goal.packed_lumas-requires
+packed_lumas-requires c =
+    let g = c.args in (
+      c.requires.0,
+      subst (λ f. Arranged (yuv_code f) g.luma g.u g.v) c.in-Packed.is c.requires.1,
+      subst (λ f. PairsIn (length g.src.now) (yuv_code f) g.luma g.u g.v g.n) c.in-Packed.is c.requires.2,
+    )
 
-pub gather_packed-requires-in-1498831189 : goal.gather_packed-requires-in-1498831189
-gather_packed-requires-in-1498831189 c =
-    let e = c.in-1498831189.is in
-    (omega arith, c.requires.1, λ k h. omega (arith, luma_last (uyvy_steps _ e) c.requires.3 k h, (c.requires.2.uyvy e).0))
+pub returns-in-Packed : goal.returns-in-Packed
+returns-in-Packed c =
+    let g = c.args in
+    subst (λ f. Gathered g.src.now g.luma (g.luma + luma_gap (yuv_code f)) (luma_step (yuv_code f)) g.n c.packed_lumas.new.lumas) (sym c.in-Packed.is) c.packed_lumas.ensures
 
 pub gather_words-requires : goal.gather_words-requires
 gather_words-requires c =
-    let two = planar_lumas c.args.d3d_format c.requires.0 (λ e. omega arith) (λ e. omega arith) in
-    (c.requires.1, λ k h. omega (arith, (c.requires.3 k h).lumas, two.1, ap (λ m. k * m) two.0))
+    let two = planar_lumas c.in-Planar.field-0 in
+    let one = ap (λ f. luma_gap (yuv_code f)) c.in-Planar.is in
+    let step = ap (λ f. luma_step (yuv_code f)) c.in-Planar.is in
+    (c.requires.0, λ k h. omega (arith, (c.requires.2 k h).lumas, one, two.1, ap (λ m. k * m) step, ap (λ m. k * m) two.0))
 
-pub returns-in-844715353 : goal.returns-in-844715353
-returns-in-844715353 c =
-    let s = yuy2_steps c.args.d3d_format c.in-844715353.is in
-    gathered_at (omega arith) (omega (arith, s.gap_is)) (sym s.luma_is) c.gather_packed.ensures
-
-pub returns-in-1498831189 : goal.returns-in-1498831189
-returns-in-1498831189 c =
-    let s = uyvy_steps c.args.d3d_format c.in-1498831189.is in
-    let e = (c.requires.2.uyvy c.in-1498831189.is).0 in
-    gathered_at (sym e) (omega (arith, s.gap_is, e)) (sym s.luma_is) c.gather_packed-in-1498831189.ensures
-
-pub returns-in_default : goal.returns-in_default
-returns-in_default c =
-    let two = planar_lumas c.args.d3d_format c.requires.0 (λ e. omega arith) (λ e. omega arith) in
-    gathered_at (omega arith) (omega (arith, two.1)) (sym two.0) c.gather_words.ensures
+pub returns-in-Planar : goal.returns-in-Planar
+returns-in-Planar c =
+    let two = planar_lumas c.in-Planar.field-0 in
+    let one = ap (λ f. luma_gap (yuv_code f)) c.in-Planar.is in
+    let step = ap (λ f. luma_step (yuv_code f)) c.in-Planar.is in
+    gathered_at (omega arith) (omega (arith, one, two.1)) (omega (arith, step, two.0)) c.gather_words.ensures

@@ -1,67 +1,21 @@
 -- `yuv_pairs::gather_packed` meets its contract: macropixel by macropixel, with the offset carried. Assumes nothing.
-use mathlib.Core.Path.{◌≡◌, refl, ap, ap₂, ◌∙◌, subst}
-use mathlib.Core.List.{List}
-use Prim.Native.Nat.{ℕ, ◌+◌, ◌*◌, ◌≤◌, ◌<◌}
-use native.Mathlib.Nat.{le_antisymm}
-use native.Mathlib.Omega.{arith}
-use lib.ListN.{length, get_or, take, length-set, length-take, length-drop}
-use borrow.Author.Rules.{rules}
+use Rattle.std.proofs.Common.{◌≡◌, ◌+◌, ◌*◌, ◌<◌, ℕ, List, get_or, take, sym, ap, ap₂, ◌∙◌, subst, arith}
 use Rattle.words.specs.Little.{Small, number, small_list}
 use Rattle.words.specs.Slices.{part_read}
 use Rattle.blocks.specs.Blocks.{once_more}
-use Rattle.yuv_pairs.specs.Gathered.{two_bytes, Gathered, gather_more, packed_read}
+use Rattle.yuv_pairs.specs.Gathered.{two_bytes, gather_more, packed_read}
 use Rattle.yuv_pairs.proofs.gather_packed.Goals as goal
 
-pub loop-i-init : goal.loop-i-init
-loop-i-init c =
-    (record { words = λ k l. absurd (omega (arith, l)) }, omega arith, search rules, refl)
-
-pub slice_bounds-le32-count : goal.slice_bounds-le32-count
-slice_bounds-le32-count c =
-    let room : c.loop-i.at + 4 ≤ length c.args.src.now = omega (arith, c.loop-i.invariant.1, c.requires.2 c.loop-i.i c.loop-i-test.true) in
-    omega (arith, room)
-
-pub slice_bounds-le32-start : goal.slice_bounds-le32-start
-slice_bounds-le32-start c =
-    let room : c.loop-i.at + 4 ≤ length c.args.src.now = omega (arith, c.loop-i.invariant.1, c.requires.2 c.loop-i.i c.loop-i-test.true) in
-    omega (arith, room)
-
-pub le32-requires : goal.le32-requires
-le32-requires c =
-    let room : c.loop-i.at + 4 ≤ length c.args.src.now = omega (arith, c.loop-i.invariant.1, c.requires.2 c.loop-i.i c.loop-i-test.true) in
-    simp (length-take, length-drop) (omega (arith, room))
-
-pub bounds-out-i : goal.bounds-out-i
-bounds-out-i c =
-    let held : c.loop-i.i < length c.loop-i.out = omega (arith, c.loop-i-test.true, c.loop-i.invariant.3, c.requires.1) in
-    held
-
-pub overflow_add-at : goal.overflow_add-at
-overflow_add-at c =
-    let room : c.loop-i.at + 4 ≤ length c.args.src.now = omega (arith, c.loop-i.invariant.1, c.requires.2 c.loop-i.i c.loop-i-test.true) in
-    omega (arith, room)
-
-pub loop-i-preserved : goal.loop-i-preserved
-loop-i-preserved c =
-    let held : c.loop-i.i < length c.loop-i.out = omega (arith, c.loop-i-test.true, c.loop-i.invariant.3, c.requires.1) in
+pub loop-word-preserved : goal.loop-word-preserved
+loop-word-preserved c =
     let g = c.args in
-    let l = c.loop-i in
+    let l = c.loop-word in
     let src = g.src.now in
     let small : Small src = small_list src (λ k h. omega (arith, c.type_inv.src k)) in
-    let low : get_or src (l.at + g.p) 0 ≡ get_or src (g.from + g.p + l.i * 4) 0 = ap (λ k. get_or src k 0) (omega (arith, l.invariant.1)) in
-    let high : get_or src (l.at + g.p + 2) 0 ≡ get_or src (g.from + g.p + 2 + l.i * 4) 0 = ap (λ k. get_or src k 0) (omega (arith, l.invariant.1)) in
+    let low : get_or src (l.at + g.p) 0 ≡ get_or src (g.from + g.p + l.word-index * 4) 0 = ap (λ k. get_or src k 0) (omega (arith, l.invariant.1)) in
+    let high : get_or src (l.at + g.p + 2) 0 ≡ get_or src (g.from + g.p + 2 + l.word-index * 4) 0 = ap (λ k. get_or src k 0) (omega (arith, l.invariant.1)) in
     let e = c.packed_word.ensures
     ∙ ap (λ m. two_bytes m g.p) (c.le32.ensures ∙ ap (λ (m : List ℕ). number (take 4 m)) (part_read src l.at))
     ∙ packed_read l.at g.p src small c.requires.0
-    ∙ ap₂ (λ x y. x + y * 256) low high in (
-      gather_more src (g.from + g.p) (g.from + g.p + 2) 4 l.i l.out c.packed_word.result l.invariant.0 held e,
-      once_more g.from 4 l.i l.at l.invariant.1,
-      omega (arith, c.loop-i-test.true),
-      length-set l.out l.i c.packed_word.result ∙ l.invariant.3,
-    )
-
-pub returns : goal.returns
-returns c =
-    let g = c.args in
-    let past = le_antisymm c.loop-i.invariant.2 c.loop-i-test.false in
-    subst (λ (k : ℕ). Gathered g.src.now (g.from + g.p) (g.from + g.p + 2) 4 k c.loop-i.out) past c.loop-i.invariant.0
+    ∙ ap₂ (λ x y. x + y * 256) low high in
+    (gather_more src (g.from + g.p) (g.from + g.p + 2) 4 l.word-index l.word-items c.packed_word.result l.invariant.0 (subst (λ m. l.word-index < m) (sym l.auto.word-items) c.loop-word-test.true) e, once_more g.from 4 l.word-index l.at l.invariant.1)

@@ -1,124 +1,88 @@
 -- `yuv_texels::fetch` meets its contract: by the kind of the picture; the decoder is lent the part that starts at the texel. Assumes nothing.
-use mathlib.Core.Path.{◌≡◌, sym, ap, ◌∙◌}
-use mathlib.Core.Bool.{true, false}
-use mathlib.Core.List.{List}
-use Prim.Native.Nat.{ℕ, ◌+◌, ◌*◌, ◌/◌, ◌%◌, ◌≤◌}
-use native.Mathlib.Omega.{arith}
-use lib.Dec.{eqb}
-use lib.ListN.{length, take, length-take, length-drop}
+use Rattle.std.proofs.Common.{◌≡◌, ◌+◌, ◌*◌, ◌/◌, ◌%◌, ◌≤◌, true, eqb, ℕ, List, length, take, length-take, length-drop, sym, ap, ◌∙◌, subst, arith}
 use Rattle.words.specs.Slices.{part_read}
-use Rattle.formats.specs.Classes.{is_packed_yuv, is_planar_yuv}
+use Rattle.formats.specs.Classes.{is_planar_yuv}
+use Rattle.formats.specs.declared.PackedYuv.{PackedYuv}
+use Rattle.formats.specs.declared.YuvFormat.{YuvFormat}
+use Rattle.formats.specs.declared.YuvFormat.TheVariants.{Packed, Planar}
+use Rattle.formats.specs.Formats.{packed_yuv_code, planar_yuv_code, yuv_code, packed_yuv_is, packed_yuv_not_planar, planar_yuv_is}
 use Rattle.planar_yuv.specs.Answers.{Legal}
-use Rattle.places.specs.Places.{texel_start, planar_places, layout_places, places_in, bytes_at}
-use Rattle.places.specs.Planar.{laid_out}
+use Rattle.places.specs.Places.{texel_start, planar_places, layout_places, places_at, places_in, bytes_at}
+use Rattle.places.specs.Planar.{LayoutFor, laid_out}
+use Rattle.planar_yuv.specs.declared.PlanarYuvLayout.{PlanarYuvLayout}
 use Rattle.places.specs.Inside.{planar_places_lem, packed_ends}
-use Rattle.regions.specs.Regions.{texel_of}
-use Rattle.regions.specs.Fetch.{packed_left, packed_texel, planar_texel}
+use Rattle.regions.specs.Regions.{texel_of, texel_at}
+use Rattle.regions.specs.Fetch.{packed_texel, planar_texel}
 use Rattle.yuv_texels.proofs.fetch.Goals as goal
+
+-- a texel that is inside, in a planar source's layout
+in_layout : (n f pitch slice_pitch z y x : ℕ) → places_in n (places_at f pitch slice_pitch z y x) ≡ true → (layout : PlanarYuvLayout) → LayoutFor f pitch (slice_pitch / pitch) layout → is_planar_yuv f ≡ true
+    → Legal layout × (planar_places f pitch (slice_pitch / pitch) y x ≡ layout_places f layout.pitch layout.luma_rows y x)
+in_layout n f pitch slice_pitch z y x inside layout laid planar =
+    laid_out n f pitch (slice_pitch / pitch) layout laid y x (sym (ap (places_in n) (planar_places_lem f pitch slice_pitch z y x planar)) ∙ inside)
+
+-- its macropixel ends within the source
+packed_in : (n : ℕ) (f : YuvFormat) (p : PackedYuv) (pitch slice_pitch z y x : ℕ) → f ≡ Packed p → places_in n (places_at (yuv_code f) pitch slice_pitch z y x) ≡ true
+    → z * slice_pitch + y * pitch + x / 2 * 4 + 4 ≤ n
+unfolding texel_start
+packed_in n f p pitch slice_pitch z y x e inside =
+    packed_ends n (packed_yuv_code p) pitch slice_pitch z y x (subst (λ k. places_in n (places_at (yuv_code k) pitch slice_pitch z y x) ≡ true) e inside) (packed_yuv_not_planar p) (packed_yuv_is p)
 
 pub fetch_planar-requires : goal.fetch_planar-requires
 fetch_planar-requires c =
-    let planar : is_planar_yuv c.args.d3d_format ≡ true = sym c.is_planar_yuv.ensures ∙ c.if-is_planar_yuv.true in
-    let in_layout : Legal c.args.layout × (planar_places c.args.d3d_format c.args.pitch (c.args.slice_pitch / c.args.pitch) c.args.y c.args.x ≡ layout_places c.args.d3d_format c.args.layout.pitch c.args.layout.luma_rows c.args.y c.args.x) = let g = c.args in
-    laid_out (length g.src.now) g.d3d_format g.pitch (g.slice_pitch / g.pitch) g.layout c.requires.1 g.y g.x
-    (sym (ap (places_in (length g.src.now)) (planar_places_lem g.d3d_format g.pitch g.slice_pitch g.z g.y g.x planar)) ∙ c.requires.2) in
     let g = c.args in
-    let l = in_layout in
-    (planar, l.0, sym (ap (places_in (length g.src.now)) (planar_places_lem g.d3d_format g.pitch g.slice_pitch g.z g.y g.x planar ∙ l.1)) ∙ c.requires.2, c.requires.3)
+    let p = c.in-Planar.planar in
+    let f : ℕ = planar_yuv_code p in
+    let laid = subst (λ k. LayoutFor (yuv_code k) g.pitch (g.slice_pitch / g.pitch) g.layout) c.in-Planar.is c.requires.0 in
+    let inside = subst (λ k. places_in (length g.src.now) (places_at (yuv_code k) g.pitch g.slice_pitch g.z g.y g.x) ≡ true) c.in-Planar.is c.requires.1 in
+    let l = in_layout (length g.src.now) f g.pitch g.slice_pitch g.z g.y g.x inside g.layout laid (planar_yuv_is p) in
+    (l.0, sym (ap (places_in (length g.src.now)) (planar_places_lem f g.pitch g.slice_pitch g.z g.y g.x (planar_yuv_is p) ∙ l.1)) ∙ inside, c.requires.2)
 
-pub returns-then-is_planar_yuv : goal.returns-then-is_planar_yuv
-returns-then-is_planar_yuv c =
-    let planar : is_planar_yuv c.args.d3d_format ≡ true = sym c.is_planar_yuv.ensures ∙ c.if-is_planar_yuv.true in
-    let in_layout : Legal c.args.layout × (planar_places c.args.d3d_format c.args.pitch (c.args.slice_pitch / c.args.pitch) c.args.y c.args.x ≡ layout_places c.args.d3d_format c.args.layout.pitch c.args.layout.luma_rows c.args.y c.args.x) = let g = c.args in
-    laid_out (length g.src.now) g.d3d_format g.pitch (g.slice_pitch / g.pitch) g.layout c.requires.1 g.y g.x
-    (sym (ap (places_in (length g.src.now)) (planar_places_lem g.d3d_format g.pitch g.slice_pitch g.z g.y g.x planar)) ∙ c.requires.2) in
+pub returns-in-Planar : goal.returns-in-Planar
+returns-in-Planar c =
     let g = c.args in
+    let p = c.in-Planar.planar in
+    let f : ℕ = planar_yuv_code p in
+    let laid = subst (λ k. LayoutFor (yuv_code k) g.pitch (g.slice_pitch / g.pitch) g.layout) c.in-Planar.is c.requires.0 in
+    let inside = subst (λ k. places_in (length g.src.now) (places_at (yuv_code k) g.pitch g.slice_pitch g.z g.y g.x) ≡ true) c.in-Planar.is c.requires.1 in
+    let l = in_layout (length g.src.now) f g.pitch g.slice_pitch g.z g.y g.x inside g.layout laid (planar_yuv_is p) in
     c.fetch_planar.ensures
-    ∙ sym (ap (λ p. texel_of g.numbers g.d3d_format (eqb (g.x % 2) 1) (bytes_at g.src.now p)) in_layout.1)
-    ∙ sym (planar_texel g.numbers g.src.now g.d3d_format g.pitch g.slice_pitch g.z g.y g.x planar)
+    ∙ sym (ap (λ q. texel_of g.numbers f (eqb (g.x % 2) 1) (bytes_at g.src.now q)) l.1)
+    ∙ sym (planar_texel g.numbers g.src.now f g.pitch g.slice_pitch g.z g.y g.x (planar_yuv_is p))
+    ∙ sym (ap (λ k. texel_at g.numbers g.src.now (yuv_code k) g.pitch g.slice_pitch g.z g.y g.x) c.in-Planar.is)
 
 pub overflow_mul-at : goal.overflow_mul-at
-unfolding texel_start
-overflow_mul-at c =
-    let not_planar : is_planar_yuv c.args.d3d_format ≡ false = sym c.is_planar_yuv.ensures ∙ c.if-is_planar_yuv.false in
-    let packed : is_packed_yuv c.args.d3d_format ≡ true = packed_left _ c.requires.0 not_planar in
-    let packed_in : texel_start c.args.pitch c.args.slice_pitch 4 c.args.z c.args.y (c.args.x / 2) + 4 ≤ length c.args.src.now = let g = c.args in
-    packed_ends (length g.src.now) g.d3d_format g.pitch g.slice_pitch g.z g.y g.x c.requires.2 not_planar packed in
-    omega (arith, packed_in)
+overflow_mul-at c = omega (arith, packed_in _ c.args.format c.in-Packed.packed c.args.pitch c.args.slice_pitch c.args.z c.args.y c.args.x c.in-Packed.is c.requires.1)
 
-pub overflow_mul-at-2 : goal.overflow_mul-at-2
-unfolding texel_start
-overflow_mul-at-2 c =
-    let not_planar : is_planar_yuv c.args.d3d_format ≡ false = sym c.is_planar_yuv.ensures ∙ c.if-is_planar_yuv.false in
-    let packed : is_packed_yuv c.args.d3d_format ≡ true = packed_left _ c.requires.0 not_planar in
-    let packed_in : texel_start c.args.pitch c.args.slice_pitch 4 c.args.z c.args.y (c.args.x / 2) + 4 ≤ length c.args.src.now = let g = c.args in
-    packed_ends (length g.src.now) g.d3d_format g.pitch g.slice_pitch g.z g.y g.x c.requires.2 not_planar packed in
-    omega (arith, packed_in)
+pub overflow_mul-at-in-Packed : goal.overflow_mul-at-in-Packed
+overflow_mul-at-in-Packed c = omega (arith, packed_in _ c.args.format c.in-Packed.packed c.args.pitch c.args.slice_pitch c.args.z c.args.y c.args.x c.in-Packed.is c.requires.1)
 
 pub overflow_add-at : goal.overflow_add-at
-unfolding texel_start
-overflow_add-at c =
-    let not_planar : is_planar_yuv c.args.d3d_format ≡ false = sym c.is_planar_yuv.ensures ∙ c.if-is_planar_yuv.false in
-    let packed : is_packed_yuv c.args.d3d_format ≡ true = packed_left _ c.requires.0 not_planar in
-    let packed_in : texel_start c.args.pitch c.args.slice_pitch 4 c.args.z c.args.y (c.args.x / 2) + 4 ≤ length c.args.src.now = let g = c.args in
-    packed_ends (length g.src.now) g.d3d_format g.pitch g.slice_pitch g.z g.y g.x c.requires.2 not_planar packed in
-    omega (arith, packed_in)
+overflow_add-at c = omega (arith, packed_in _ c.args.format c.in-Packed.packed c.args.pitch c.args.slice_pitch c.args.z c.args.y c.args.x c.in-Packed.is c.requires.1)
 
-pub overflow_mul-at-3 : goal.overflow_mul-at-3
-unfolding texel_start
-overflow_mul-at-3 c =
-    let not_planar : is_planar_yuv c.args.d3d_format ≡ false = sym c.is_planar_yuv.ensures ∙ c.if-is_planar_yuv.false in
-    let packed : is_packed_yuv c.args.d3d_format ≡ true = packed_left _ c.requires.0 not_planar in
-    let packed_in : texel_start c.args.pitch c.args.slice_pitch 4 c.args.z c.args.y (c.args.x / 2) + 4 ≤ length c.args.src.now = let g = c.args in
-    packed_ends (length g.src.now) g.d3d_format g.pitch g.slice_pitch g.z g.y g.x c.requires.2 not_planar packed in
-    omega (arith, packed_in)
+pub overflow_mul-at-in-Packed-2 : goal.overflow_mul-at-in-Packed-2
+overflow_mul-at-in-Packed-2 c = omega (arith, packed_in _ c.args.format c.in-Packed.packed c.args.pitch c.args.slice_pitch c.args.z c.args.y c.args.x c.in-Packed.is c.requires.1)
 
-pub overflow_add-at-2 : goal.overflow_add-at-2
-unfolding texel_start
-overflow_add-at-2 c =
-    let not_planar : is_planar_yuv c.args.d3d_format ≡ false = sym c.is_planar_yuv.ensures ∙ c.if-is_planar_yuv.false in
-    let packed : is_packed_yuv c.args.d3d_format ≡ true = packed_left _ c.requires.0 not_planar in
-    let packed_in : texel_start c.args.pitch c.args.slice_pitch 4 c.args.z c.args.y (c.args.x / 2) + 4 ≤ length c.args.src.now = let g = c.args in
-    packed_ends (length g.src.now) g.d3d_format g.pitch g.slice_pitch g.z g.y g.x c.requires.2 not_planar packed in
-    omega (arith, packed_in)
+pub overflow_add-at-in-Packed : goal.overflow_add-at-in-Packed
+overflow_add-at-in-Packed c = omega (arith, packed_in _ c.args.format c.in-Packed.packed c.args.pitch c.args.slice_pitch c.args.z c.args.y c.args.x c.in-Packed.is c.requires.1)
 
 pub slice_bounds-fetch_packed-count : goal.slice_bounds-fetch_packed-count
-unfolding texel_start
-slice_bounds-fetch_packed-count c =
-    let not_planar : is_planar_yuv c.args.d3d_format ≡ false = sym c.is_planar_yuv.ensures ∙ c.if-is_planar_yuv.false in
-    let packed : is_packed_yuv c.args.d3d_format ≡ true = packed_left _ c.requires.0 not_planar in
-    let packed_in : texel_start c.args.pitch c.args.slice_pitch 4 c.args.z c.args.y (c.args.x / 2) + 4 ≤ length c.args.src.now = let g = c.args in
-    packed_ends (length g.src.now) g.d3d_format g.pitch g.slice_pitch g.z g.y g.x c.requires.2 not_planar packed in
-    omega (arith, packed_in)
+slice_bounds-fetch_packed-count c = omega (arith, packed_in _ c.args.format c.in-Packed.packed c.args.pitch c.args.slice_pitch c.args.z c.args.y c.args.x c.in-Packed.is c.requires.1)
 
 pub slice_bounds-fetch_packed-start : goal.slice_bounds-fetch_packed-start
-unfolding texel_start
-slice_bounds-fetch_packed-start c =
-    let not_planar : is_planar_yuv c.args.d3d_format ≡ false = sym c.is_planar_yuv.ensures ∙ c.if-is_planar_yuv.false in
-    let packed : is_packed_yuv c.args.d3d_format ≡ true = packed_left _ c.requires.0 not_planar in
-    let packed_in : texel_start c.args.pitch c.args.slice_pitch 4 c.args.z c.args.y (c.args.x / 2) + 4 ≤ length c.args.src.now = let g = c.args in
-    packed_ends (length g.src.now) g.d3d_format g.pitch g.slice_pitch g.z g.y g.x c.requires.2 not_planar packed in
-    omega (arith, packed_in)
+slice_bounds-fetch_packed-start c = omega (arith, packed_in _ c.args.format c.in-Packed.packed c.args.pitch c.args.slice_pitch c.args.z c.args.y c.args.x c.in-Packed.is c.requires.1)
 
 pub fetch_packed-requires : goal.fetch_packed-requires
-unfolding texel_start
 fetch_packed-requires c =
-    let not_planar : is_planar_yuv c.args.d3d_format ≡ false = sym c.is_planar_yuv.ensures ∙ c.if-is_planar_yuv.false in
-    let packed : is_packed_yuv c.args.d3d_format ≡ true = packed_left _ c.requires.0 not_planar in
-    let packed_in : texel_start c.args.pitch c.args.slice_pitch 4 c.args.z c.args.y (c.args.x / 2) + 4 ≤ length c.args.src.now = let g = c.args in
-    packed_ends (length g.src.now) g.d3d_format g.pitch g.slice_pitch g.z g.y g.x c.requires.2 not_planar packed in
-    (packed, simp (length-take, length-drop) (omega (arith, packed_in)), c.requires.3)
+    (simp (length-take, length-drop) (omega (arith, packed_in _ c.args.format c.in-Packed.packed c.args.pitch c.args.slice_pitch c.args.z c.args.y c.args.x c.in-Packed.is c.requires.1)), c.requires.2)
 
-pub returns : goal.returns
+pub returns-in-Packed : goal.returns-in-Packed
 unfolding texel_start
-returns c =
-    let not_planar : is_planar_yuv c.args.d3d_format ≡ false = sym c.is_planar_yuv.ensures ∙ c.if-is_planar_yuv.false in
-    let packed : is_packed_yuv c.args.d3d_format ≡ true = packed_left _ c.requires.0 not_planar in
-    let packed_in : texel_start c.args.pitch c.args.slice_pitch 4 c.args.z c.args.y (c.args.x / 2) + 4 ≤ length c.args.src.now = let g = c.args in
-    packed_ends (length g.src.now) g.d3d_format g.pitch g.slice_pitch g.z g.y g.x c.requires.2 not_planar packed in
+returns-in-Packed c =
     let g = c.args in
-    let l = g.src.now in
+    let p = c.in-Packed.packed in
     let from = g.z * g.slice_pitch + g.y * g.pitch + g.x / 2 * 4 in
     c.fetch_packed.ensures
-    ∙ ap (λ (m : List ℕ). texel_of g.numbers g.d3d_format (eqb (g.x % 2) 1) (take 4 m)) (part_read l from)
-    ∙ sym (packed_texel g.numbers l g.d3d_format g.pitch g.slice_pitch g.z g.y g.x not_planar packed packed_in)
+    ∙ ap (λ (m : List ℕ). texel_of g.numbers (packed_yuv_code p) (eqb (g.x % 2) 1) (take 4 m)) (part_read g.src.now from)
+    ∙ sym (packed_texel g.numbers g.src.now (packed_yuv_code p) g.pitch g.slice_pitch g.z g.y g.x (packed_yuv_not_planar p) (packed_yuv_is p) (packed_in _ c.args.format c.in-Packed.packed c.args.pitch c.args.slice_pitch c.args.z c.args.y c.args.x c.in-Packed.is c.requires.1))
+    ∙ sym (ap (λ k. texel_at g.numbers g.src.now (yuv_code k) g.pitch g.slice_pitch g.z g.y g.x) c.in-Packed.is)

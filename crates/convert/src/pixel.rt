@@ -1,0 +1,23 @@
+// What a fill hands back: a texel's bytes, or that there are none.
+ghost use Rattle.std.specs.Prelude.{◌≡◌, ◌≤◌};
+
+// One texel's bytes: the first `len` of `bytes`, and zeros after them.
+#[derive(Clone, Copy)]
+pub struct FillPixel {
+    pub bytes: [u8; 16],
+    pub len: usize,
+    ghost fits: { len ≤ 16 },
+}
+
+// The format code has no fill.
+#[derive(Clone, Copy, PartialEq, Eq)]
+pub struct NoFill;
+
+// The number of that refusal.
+impl From<NoFill> for u32 {
+    ghost from_gives = { λ _ number. number ≡ 5 };
+
+    fn from(_refusal: NoFill) -> u32 {
+        5
+    }
+}

@@ -1,0 +1,17 @@
+-- `depth_pixels::D24X8::encode` meets its contract: the word is the code, below the unused byte. Assumes nothing.
+use mathlib.Core.Path.{◌≡◌, ◌∙◌}
+use Prim.Native.Nat.{ℕ, ◌+◌, ◌*◌}
+use native.Mathlib.Omega.{arith}
+use Rattle.formats.specs.Codes as codes
+use Rattle.depth_pixels.specs.PackedFormats.{size_d24x8, max_d24x8, word_d24x8}
+use Rattle.depth_pixels.proofs.Coding.{encodes}
+use Rattle.depth_pixels.proofs.D24X8PackedPixel.encode.Goals as goal
+
+below_unused : (c : ℕ) → c ≡ 0 * 16777216 + c
+below_unused c = omega arith
+
+pub returns : goal.returns
+returns c =
+    let g = c.args in
+    let code = c.code_of-code in
+    encodes codes.D24X8 16777215 4 g.value code.result g.pixel.now c.put32.ensures size_d24x8 max_d24x8 code.ensures (word_d24x8 code.result g.value.stencil ∙ below_unused code.result)

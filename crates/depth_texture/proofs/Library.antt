@@ -1,0 +1,52 @@
+-- What the library's methods and the code's tests give, in the words of specs/. Assumes nothing.
+use Rattle.std.specs.Prelude.{◌≡◌, false, ◌&&◌, ℕ, suc, ◌+◌, ◌-◌, ◌*◌, ◌/◌, ◌%◌, ◌≤◌, ◌<◌, leb, ltb}
+use Rattle.std.proofs.Common.{sym, ap, ap₂, ◌∙◌, inl, inr, arith, suc-mul, mul-le-mul_right, div-add-mod'}
+use borrow.Author.Tests.{le-leb, lt-leb}
+use Rattle.words.specs.Multiples.{raised, Raised, raised_is}
+use Rattle.words.specs.Tests.{split, leb_same, and_out}
+use Rattle.formats.specs.Table.{bytes_of}
+use Rattle.depth_texture.specs.declared.PlaneLayout.{PlaneLayout}
+use Rattle.depth_texture.specs.Layouts.{limit, planes_fit}
+use Rattle.depth_texture.specs.Replies.{packed_holds}
+
+-- the multiple of a that is n or more, and less than a above it
+pub next_raised : (n a r : ℕ) → 0 < a → n ≤ r → r < n + a → r % a ≡ 0 → r ≡ raised n a
+next_raised n a r pos low high multiple =
+    let m = raised n a in
+    let R : Raised n a m = raised_is n a pos in
+    let q = r / a in
+    let k = R.multiple.0 in
+    let whole : r ≡ q * a = omega (arith, div-add-mod' r a, multiple) in
+    let below : m ≤ r = omega (arith, R.least q (omega (arith, low, whole)), whole) in
+    elim (split q (suc k)) [
+      | inl h ↦ omega (arith, below, whole, R.multiple.1, mul-le-mul_right {m = q} {n = k} a (omega (arith, h)))
+      | inr h ↦ absurd (omega (arith, whole, high, R.enough, R.multiple.1, suc-mul k a, mul-le-mul_right {m = suc k} {n = q} a h))
+    ]
+
+-- below the limit is at most the largest number of 64 bits
+below_limit : (n : ℕ) → leb n 18446744073709551615 ≡ ltb n limit
+below_limit n = leb_same n 18446744073709551615 (suc n) limit (λ h. omega arith) (λ h. omega arith)
+
+pub both_fit : (l : PlaneLayout) → (leb (l.depth_pitch * l.height) 18446744073709551615 && leb (l.stencil_pitch * l.height) 18446744073709551615) ≡ planes_fit l
+unfolding planes_fit
+both_fit l = ap₂ (λ p q. p && q) (below_limit (l.depth_pitch * l.height)) (below_limit (l.stencil_pitch * l.height))
+
+-- what is left past one row holds the others
+module _ (f : ℕ) (l : PlaneLayout) (len pitch size : ℕ) (e : size ≡ bytes_of f) where
+  pub short_pitch : pitch < l.width * size → false ≡ packed_holds f l len pitch
+  unfolding packed_holds
+  short_pitch h = sym (ap (λ t. t && leb ((l.height - 1) * pitch + l.width * bytes_of f) len) (ap (λ n. leb (l.width * n) pitch) (sym e) ∙ lt-leb (l.width * size) pitch h))
+
+  pub short_row : len < l.width * size → false ≡ packed_holds f l len pitch
+  unfolding packed_holds
+  short_row h =
+      sym
+      (and_out (leb (l.width * bytes_of f) pitch) (leb ((l.height - 1) * pitch + l.width * bytes_of f) len)
+      (ap (λ n. leb ((l.height - 1) * pitch + l.width * n) len) (sym e) ∙ lt-leb ((l.height - 1) * pitch + l.width * size) len (omega arith)))
+
+  pub other_rows : l.width * size ≤ pitch → l.width * size ≤ len → leb ((l.height - 1) * pitch) (len - l.width * size) ≡ packed_holds f l len pitch
+  unfolding packed_holds
+  other_rows p q =
+      leb_same ((l.height - 1) * pitch) (len - l.width * size) ((l.height - 1) * pitch + l.width * size) len (λ h. omega arith) (λ h. omega arith)
+      ∙ ap (λ t. t && leb ((l.height - 1) * pitch + l.width * size) len) (sym (le-leb (l.width * size) pitch p))
+      ∙ ap (λ n. leb (l.width * n) pitch && leb ((l.height - 1) * pitch + l.width * n) len) e

@@ -1,0 +1,63 @@
+// What comes of the records, counted for each call.
+use crate::call::Call;
+use std::fmt;
+
+/// What comes of one record.
+#[derive(Clone, Copy)]
+pub(crate) struct Outcome {
+    /// The record's call; `None` for a number that no call has.
+    pub call: Option<Call>,
+    /// Whether the record says that the call is refused.
+    pub is_refused: bool,
+    /// Whether the call, computed anew, answers otherwise than the record says.
+    pub differs: bool,
+}
+
+/// How many cases of a call there are, how many of them are refused, and how many differ.
+#[derive(Clone, Copy, Default)]
+pub(crate) struct Count {
+    pub cases: u64,
+    pub refused: u64,
+    pub differ: u64,
+}
+
+impl Count {
+    fn add(&mut self, outcome: Outcome) {
+        self.cases = self.cases.saturating_add(1);
+        self.refused = self.refused.saturating_add(u64::from(outcome.is_refused));
+        self.differ = self.differ.saturating_add(u64::from(outcome.differs));
+    }
+}
+
+impl fmt::Display for Count {
+    fn fmt<W: fmt::Write>(&self, f: &mut fmt::Formatter<W>) -> fmt::Result {
+        write!(f, "{} cases, {} differ", self.cases, self.differ)
+    }
+}
+
+/// The counts of all calls, in fixed memory.
+#[derive(Clone, Copy, Default)]
+pub(crate) struct Counts {
+    calls: [Count; 30],
+    others: Count,
+}
+
+impl Counts {
+    /// The count of a call.
+    pub(crate) fn of(&self, call: Call) -> Count {
+        self.calls[call as usize]
+    }
+
+    /// The count of the records whose number no call has.
+    pub(crate) fn others(&self) -> Count {
+        self.others
+    }
+
+    /// Counts one more record.
+    pub(crate) fn add(&mut self, outcome: Outcome) {
+        match outcome.call {
+            Some(call) => self.calls[call as usize].add(outcome),
+            None => self.others.add(outcome),
+        }
+    }
+}

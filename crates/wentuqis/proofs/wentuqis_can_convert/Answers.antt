@@ -1,6 +1,0 @@
--- `wentuqis::wentuqis_can_convert` meets its contract: the inner call's. Assumes nothing.
-use Rattle.wentuqis.proofs.wentuqis_can_convert.Goals as goal
-
-pub returns : goal.returns
-returns c =
-    c.can_convert.ensures

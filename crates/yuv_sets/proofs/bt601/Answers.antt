@@ -1,8 +1,0 @@
--- `yuv_sets::bt601` meets its contract: its numbers are those of the definition, whose decimals Legal has. Assumes nothing.
-use mathlib.Core.Path.{refl}
-use Rattle.yuv_sets.specs.Legal.{bt601_rounded}
-use Rattle.yuv_sets.proofs.bt601.Goals as goal
-
-pub returns : goal.returns
-returns c =
-    record { is = refl; nearest = bt601_rounded }

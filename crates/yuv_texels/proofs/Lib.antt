@@ -1,0 +1,2 @@
+-- Laws that proofs of this crate and of others cite.
+pub mod Whole
