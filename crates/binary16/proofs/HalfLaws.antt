@@ -1,6 +1,5 @@
 -- THE LAW THAT JOINS THE CODE THAT IS MEANT AND THE NUMBER THAT COMPUTES IT, and that no other pattern is meant. Assumes nothing.
-use Rattle.std.specs.Prelude.{◌≡◌, refl, Bool, true, false, ◌⊎◌, ℕ, suc, ◌+◌, ◌*◌, ◌-◌, ◌/◌, ◌%◌, ◌^◌, ◌≤◌, ◌<◌, leb, Float}
-use Rattle.std.proofs.Common.{sym, ap, ap₂, ◌∙◌, subst, inl, inr, le_trans, le_of_eq, le_of_lt, lt_trans, lt_irrefl, lt_of_lt_of_le, eq-or-lt_of_le, mul-pos, mul_comm, mul_assoc, mul-one, mul-le-mul_right, mul-lt-mul_of_pos_right, suc-mul, div-lt_iff_lt-mul, le-div_iff_mul-le, div-add-mod', arith, lit<, lit≤, pow-add, pow_pos, pow_mono, leb-true, leb-false}
+use Rattle.std.proofs.Common.{◌≡◌, refl, Bool, true, false, ◌⊎◌, ℕ, suc, ◌+◌, ◌*◌, ◌-◌, ◌/◌, ◌%◌, ◌^◌, ◌≤◌, ◌<◌, leb, Float, sym, ap, ap₂, ◌∙◌, subst, inl, inr, le_trans, le_of_eq, le_of_lt, lt_trans, lt_irrefl, lt_of_lt_of_le, eq-or-lt_of_le, mul-pos, mul_comm, mul_assoc, mul-one, mul-le-mul_right, mul-lt-mul_of_pos_right, suc-mul, div-lt_iff_lt-mul, le-div_iff_mul-le, div-add-mod', arith, lit<, lit≤, pow-add, pow_pos, pow_mono, leb-true, leb-false}
 use Rattle.std.proofs.Math.Arith.{digits_div, digits_mod}
 use Rattle.std.specs.Float.{nan, inf, fin, binary32}
 use Rattle.std.specs.Float.Ieee.{up, down, size, of_bits}

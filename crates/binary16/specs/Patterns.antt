@@ -1,10 +1,7 @@
 -- The binary16 code of a binary32 pattern, by the range in which the pattern without its sign lies. Assumes nothing.
 use Rattle.std.specs.Prelude.{◌≡◌, refl, Bool, cond, ℕ, zero, suc, ◌+◌, ◌*◌, ◌-◌, ◌/◌, ◌%◌, ◌^◌, ◌≤◌, ◌<◌, T, leb, eqb, Float}
-use Rattle.std.proofs.Common.{sym, ap₂, ◌∙◌, subst, inl, inr, le_trans, le_of_eq, lt_of_lt_of_le, not-le_of_lt, eq-or-lt_of_le, mul-pos, mul_right_comm, mul-one, one-mul, mul-le-mul_right, mul-lt-mul_of_pos_right, le_of_mul-le-mul_right, lt_of_mul-lt-mul_right, div-lt_iff_lt-mul, le-div_iff_mul-le, arith, lt→ltb, eqb→eq, lit<, pow_pos, pow_mono, le-leb}
-use Rattle.std.proofs.Math.Path.{ap}
-use Rattle.std.proofs.Math.Nat.{mul_assoc, zero-add}
+use Rattle.std.proofs.Common.{sym, ap₂, ◌∙◌, subst, inl, inr, le_trans, le_of_eq, lt_of_lt_of_le, not-le_of_lt, eq-or-lt_of_le, mul-pos, mul_right_comm, mul-one, one-mul, mul-le-mul_right, mul-lt-mul_of_pos_right, le_of_mul-le-mul_right, lt_of_mul-lt-mul_right, div-lt_iff_lt-mul, le-div_iff_mul-le, arith, lt→ltb, eqb→eq, lit<, pow_pos, pow_mono, le-leb, ap, mul_assoc, zero-add, pow-add}
 use Rattle.std.proofs.Math.Dec.{not_T}
-use Rattle.std.proofs.Math.Pow.{pow-add}
 use Rattle.std.specs.Float.{nan, inf, fin, binary32}
 use Rattle.std.specs.Float.Ieee.{up, down, size, odd, of_fields, of_bits, is_nan}
 use Rattle.std.specs.Float.Ieee.Digits.{size-lt, size-le}

@@ -13,6 +13,7 @@ const SMALLEST_NORMAL: u32 = 113;
 
 // The binary16 code of a binary32 pattern from 2^-24 to below 65520. A normal number drops 13 digits of its 24; a subnormal one
 // drops more. A carry out of the fraction adds one to the exponent's field.
+#[tactic(auto, using(crate::specs::Patterns::rounded_code))]
 fn nearest_f16(bits: u32) -> u32
     requires { (0x33800000 ≤ bits) × (bits < 0x477ff000) }
     ensures { result ≡ code_of (of_bits binary32 bits) }

@@ -3,52 +3,46 @@
 #![tactic(auto)]
 
 ghost use Rattle.std.specs.Prelude.{◌≡◌, ◌≤◌, length};
-ghost use Rattle.formats.specs.Table.{bytes_of};
 ghost use Rattle.formats.specs.Formats.{rgb_code, lane_source_code};
 ghost use Rattle.yuv_sets.specs.declared.YuvSet.{YuvSet};
 ghost use Rattle.regions.specs.Regions.{row_written};
 ghost use Rattle.regions.specs.Rows.{RowFits};
 
-use convert_reply::ConvertRegion;
+use convert_reply::RegionRow;
 use formats::{LaneSource, RgbFormat};
 
+mod sized;
+
+pub use sized::{LaneTexels, RgbTexels};
+
 // A row of a source with lanes, block by block; A8R8G8B8 goes without one. Both offsets are worked out for the row's first texel and
-// carried from there: each loop adds the texel size. A texel of the source has `from_size` bytes, one of the destination `to_size`.
+// carried from there: each loop adds the texel size.
 pub fn block_row(
     block: &mut [u32],
     dst: &mut [u8],
-    dst_format: RgbFormat,
-    to_size: usize,
+    target: RgbTexels,
     src: &[u8],
-    src_format: LaneSource,
-    from_size: usize,
-    region: ConvertRegion,
-    z: usize,
-    row: usize,
+    source: LaneTexels,
+    at: RegionRow,
 )
-    requires { (RowFits (length src.now) (length dst.old) (lane_source_code src_format) (rgb_code dst_format) region z row) × (from_size ≡ bytes_of (lane_source_code src_format)) × (to_size ≡ bytes_of (rgb_code dst_format)) × (64 ≤ length block.old) }
-    ensures { (numbers : YuvSet) → dst.new ≡ row_written numbers src.now (lane_source_code src_format) (rgb_code dst_format) region z row dst.old }
+    requires { RowFits (length src.now) (length dst.old) (lane_source_code source.format) (rgb_code target.format) at.region at.z at.row × (64 ≤ length block.old) }
+    ensures { (numbers : YuvSet) → dst.new ≡ row_written numbers src.now (lane_source_code source.format) (rgb_code target.format) at.region at.z at.row dst.old }
 {
-    let from_x = region.src_x as usize;
-    let to_x = region.dst_x as usize;
-    let from_y = region.src_y as usize + row;
-    let to_y = region.dst_y as usize + row;
-    let from_pitch = region.src_pitch;
-    let to_pitch = region.dst_pitch;
-    let from_slice = region.src_slice_pitch;
-    let to_slice = region.dst_slice_pitch;
-    let texels = region.width as usize;
-    let first_from = z * from_slice + from_y * from_pitch + from_x * from_size;
-    let first_to = z * to_slice + to_y * to_pitch + to_x * to_size;
-    if src_format == LaneSource::Rgb(RgbFormat::A8R8G8B8) {
-        blocks::rewrite_texels(texels, src, first_from, dst, dst_format, first_to);
+    let from_pitches = at.region.source_pitches();
+    let to_pitches = at.region.destination_pitches();
+    let first_from = from_pitches.start_of(source.size, at.source_spot(0));
+    let first_to = to_pitches.start_of(target.size, at.destination_spot(0));
+    let texels = at.region.width as usize;
+    if source.format == LaneSource::Rgb(RgbFormat::A8R8G8B8) {
+        blocks::rewrite_texels(texels, src, first_from, dst, target.format, first_to);
         return;
     }
     let mut from = first_from;
     let mut to = first_to;
     for done in (0..texels).step_by(64) {
         let n = (texels - done).min(64);
-        from = blocks::read_texels(block, n, src, src_format, from);
-        to = blocks::write_texels(block, n, dst, dst_format, to);
+        let part = &mut block[..n];
+        from = blocks::read_texels(part, src, source.format, from);
+        to = blocks::write_texels(part, dst, target.format, to);
     }
 }

@@ -1,10 +1,12 @@
 -- What it is to read texels into a block of A8R8G8B8 words and to write the texels of such words, with the offset that is carried along,
 -- and the laws of one texel more.
 -- Assumes nothing.
-use Rattle.std.specs.Prelude.{◌≡◌, refl, List, ℕ, ◌+◌, ◌*◌, ◌≤◌, ◌<◌, length, get_or, set, take, drop}
-use Rattle.std.proofs.Common.{sym, ap, ◌∙◌, subst, ⊎_elim, add-mul, mul-le-mul_right, arith, length-drop, get_or-set_same, get_or-set_other}
+use Rattle.std.specs.Prelude.{◌≡◌, refl, List, ◌++◌, ℕ, ◌+◌, ◌*◌, ◌-◌, ◌≤◌, ◌<◌, length, get_or, set, take, drop}
+use Rattle.std.proofs.Common.{sym, ap, ◌∙◌, subst, ⊎_elim, add-mul, mul-le-mul_right, arith, length-drop, length-append, get_or-set_same, get_or-set_other}
+use Rattle.std.proofs.lemmas.List.{get_or_append_left}
 use Rattle.std.proofs.lemmas.List.Edits.{sets}
 use Rattle.words.specs.Little.{number, number_split}
+use Rattle.words.specs.Slices.{part_read}
 use Rattle.words.specs.Iterate.{iterate}
 use Rattle.words.proofs.IterateLaws.{iterate_step}
 use Rattle.words.specs.Tests.{lt_or_eq}
@@ -39,6 +41,10 @@ pub record WordsWritten (word : ℕ → ℕ) (f to n : ℕ) (dst out : List ℕ)
 abbrev pub Gives : (answer : ℕ → ℕ → Type 0) (n : ℕ) (word : ℕ → ℕ) → Type 0
 Gives answer n word = (k w : ℕ) → k < n → answer k w → w ≡ word k
 
+-- the texels of n answers were written, as those of any words that the answers must be
+pub record AnswersWritten (answer : ℕ → ℕ → Type 0) (f to n : ℕ) (dst out : List ℕ) (off : ℕ) : Type 0 where
+  pub by : (given : ℕ → ℕ) → Gives answer n given → WordsWritten given f to n dst out off
+
 -- the words of a block
 abbrev pub word_of : List ℕ → ℕ → ℕ
 word_of block k = get_or block k 0
@@ -58,6 +64,11 @@ each_in len from step n r k h =
     let l : (k + 1) * step ≤ n * step = mul-le-mul_right step (omega (arith, h)) in
     omega (arith, once_more from step k (from + k * step) refl, l, r)
 
+-- the word that is read from the part of the source that starts at a byte
+word_read : (src : List ℕ) (f off : ℕ) → encoded_of A8R8G8B8 (decoded_of f (number (take (bytes_of f) (take (length src - off) (drop off src))))) ≡ word_from src f off
+unfolding word_from
+word_read src f off = ap (λ (m : List ℕ). encoded_of A8R8G8B8 (decoded_of f (number (take (bytes_of f) m)))) (part_read src off)
+
 pub read_more : (src : List ℕ) (f step from i : ℕ) (block : List ℕ) (off w : ℕ) → BlockRead src f step from i block off → i < length block → w ≡ word_from src f off
     → BlockRead src f step from (i + 1) (set block i w) (off + step)
 read_more src f step from i block off w b h e = record {
@@ -67,6 +78,12 @@ read_more src f step from i block off w b h e = record {
       (lt_or_eq k i (omega (arith, l)));
   carried = once_more from step i off b.carried;
 }
+
+-- the same by the word that is read from the part of the source that starts at a byte
+pub read_next : (src : List ℕ) (f step from i : ℕ) (block : List ℕ) (off w : ℕ) → BlockRead src f step from i block off → i < length block
+    → w ≡ encoded_of A8R8G8B8 (decoded_of f (number (take (bytes_of f) (take (length src - off) (drop off src)))))
+    → BlockRead src f step from (i + 1) (set block i w) (off + step)
+read_next src f step from i block off w b h e = read_more src f step from i block off w b h (e ∙ word_read src f off)
 
 pub write_more : (word : ℕ → ℕ) (f size to i : ℕ) (dst₀ dst out : List ℕ) (off : ℕ) → size ≡ bytes_of f → WordsWritten word f to i dst₀ dst off
     → out ≡ sets dst off (encoded_bytes f (decoded_of A8R8G8B8 (word i))) → WordsWritten word f to (i + 1) dst₀ out (off + size)
@@ -89,6 +106,25 @@ as_three src from n block off r b = record {
   words = λ k h. b.words k h ∙ three_of_four src (from + k * 3) (r k h);
   carried = b.carried;
 }
+
+three_before : (src : List ℕ) (from n : ℕ) (block rest : List ℕ) (off : ℕ) → from + (n + 1) * 3 ≤ length src → n ≡ length block
+    → BlockRead src X8R8G8B8 3 from n block off → BlockRead src R8G8B8 3 from n (block ++ rest) off
+three_before src from n block rest off r e b = record {
+  words = λ k h. get_or_append_left block rest 0 k (subst (λ m. k < m) e h) ∙ b.words k h ∙ three_of_four src (from + k * 3) (omega (arith, r, h));
+  carried = b.carried;
+}
+
+-- all but the last of n texels as X8R8G8B8, and the last as it is
+pub read_last : (src : List ℕ) (from n : ℕ) (front block rest : List ℕ) (off w : ℕ) → from + n * 3 ≤ length src → length front + 1 ≡ n → length block ≡ length front → 0 < length rest
+    → BlockRead src X8R8G8B8 3 from (length front) block off
+    → w ≡ encoded_of A8R8G8B8 (decoded_of R8G8B8 (number (take (bytes_of R8G8B8) (take (length src - off) (drop off src)))))
+    → BlockRead src R8G8B8 3 from n (set (block ++ rest) (n - 1) w) (off + 3)
+read_last src from n front block rest off w r e l one b read =
+    let last : length front ≡ n - 1 = omega arith in
+    let held : length front < length (block ++ rest) = simp length-append (omega arith) in
+    subst (λ k. BlockRead src R8G8B8 3 from n (set (block ++ rest) k w) (off + 3)) last
+    (subst (λ k. BlockRead src R8G8B8 3 from k (set (block ++ rest) (length front) w) (off + 3)) e
+    (read_next src R8G8B8 3 from (length front) (block ++ rest) off w (three_before src from (length front) block rest off (omega arith) (sym l) b) held read))
 
 -- ---- the arm of a format's code k, whose texels have z bytes
 module _ (f k z : ℕ) (e : f ≡ k) (b : bytes_of k ≡ z) where

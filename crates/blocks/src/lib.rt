@@ -8,26 +8,19 @@ ghost use Rattle.std.specs.Prelude.{◌≡◌, ℕ, ◌+◌, ◌*◌, ◌≤◌,
 ghost use Rattle.formats.specs.Codes.{R8G8B8};
 ghost use Rattle.formats.specs.Table.{bytes_of};
 ghost use Rattle.formats.specs.Formats.{rgb_code, code_source_code, lane_source_code};
-ghost use Rattle.blocks.specs.Blocks.{TexelsIn, BlockRead, WordsWritten, Gives, word_of, word_in};
+ghost use Rattle.blocks.specs.Blocks.{TexelsIn, BlockRead, WordsWritten, AnswersWritten, word_of, word_in};
 
 use formats::{CodeSource, LaneSource, RgbFormat};
 
 // ---- reading
 
-// n texels, `step` bytes apart from byte `from` on, as A8R8G8B8 words at the front of `block`; returns where the next one starts.
-fn read_block(
-    block: &mut [u32],
-    n: usize,
-    src: &[u8],
-    format: LaneSource,
-    step: usize,
-    from: usize,
-) -> usize
-    requires { (step ≤ bytes_of (lane_source_code format)) × (n ≤ length block.old) × TexelsIn (length src.now) from step (bytes_of (lane_source_code format)) n }
-    ensures { BlockRead src.now (lane_source_code format) step from n block.new result }
+// As many texels as `block` has words, `step` bytes apart from byte `from` on, as A8R8G8B8 words; returns where the next one starts.
+fn read_block(block: &mut [u32], src: &[u8], format: LaneSource, step: usize, from: usize) -> usize
+    requires { (step ≤ bytes_of (lane_source_code format)) × TexelsIn (length src.now) from step (bytes_of (lane_source_code format)) (length block.old) }
+    ensures { BlockRead src.now (lane_source_code format) step from (length block.old) block.new result }
 {
     let mut off = from;
-    for word in &mut block[..n] {
+    for word in block {
         *word = texel_words::read_word(format, &src[off..]);
         off += step;
     }
@@ -38,108 +31,102 @@ fn read_block(
 // The same of an RGB format.
 fn read_rgb_block(
     block: &mut [u32],
-    n: usize,
     src: &[u8],
     format: RgbFormat,
     step: usize,
     from: usize,
 ) -> usize
-    requires { (step ≤ bytes_of (rgb_code format)) × (n ≤ length block.old) × TexelsIn (length src.now) from step (bytes_of (rgb_code format)) n }
-    ensures { BlockRead src.now (rgb_code format) step from n block.new result }
+    requires { (step ≤ bytes_of (rgb_code format)) × TexelsIn (length src.now) from step (bytes_of (rgb_code format)) (length block.old) }
+    ensures { BlockRead src.now (rgb_code format) step from (length block.old) block.new result }
 {
-    read_block(block, n, src, LaneSource::Rgb(format), step, from)
+    read_block(block, src, LaneSource::Rgb(format), step, from)
 }
 
 // The same of a source of whole numbers.
 fn read_code_block(
     block: &mut [u32],
-    n: usize,
     src: &[u8],
     format: CodeSource,
     step: usize,
     from: usize,
 ) -> usize
-    requires { (step ≤ bytes_of (code_source_code format)) × (n ≤ length block.old) × TexelsIn (length src.now) from step (bytes_of (code_source_code format)) n }
-    ensures { BlockRead src.now (code_source_code format) step from n block.new result }
+    requires { (step ≤ bytes_of (code_source_code format)) × TexelsIn (length src.now) from step (bytes_of (code_source_code format)) (length block.old) }
+    ensures { BlockRead src.now (code_source_code format) step from (length block.old) block.new result }
 {
-    read_block(block, n, src, LaneSource::Codes(format), step, from)
+    read_block(block, src, LaneSource::Codes(format), step, from)
 }
 
+// No type for a block that is not empty, which this function and the three that call it ask for: `block_row` cuts each part itself and
+// knows it, and a type would be taken apart in all four.
+
 // The same of R8G8B8. All but the last texel are read as X8R8G8B8, with the byte after their three: one load does for it.
-fn read_r8g8b8(block: &mut [u32], n: usize, src: &[u8], from: usize) -> usize
-    requires { (0 < n) × (n ≤ length block.old) × (from + n * 3 ≤ length src.now) }
-    ensures { BlockRead src.now R8G8B8 3 from n block.new result }
+#[tactic(auto, unfolding(formats::specs::Table::bytes_of, formats::specs::Table::parts_of))]
+fn read_r8g8b8(block: &mut [u32], src: &[u8], from: usize) -> usize
+    requires { (0 < length block.old) × (from + length block.old * 3 ≤ length src.now) }
+    ensures { BlockRead src.now R8G8B8 3 from (length block.old) block.new result }
 {
-    let last = n - 1;
-    let off = read_rgb_block(block, last, src, RgbFormat::X8R8G8B8, 3, from);
+    let last = block.len() - 1;
+    let off = read_rgb_block(&mut block[..last], src, RgbFormat::X8R8G8B8, 3, from);
     block[last] = texel_words::read_word(LaneSource::Rgb(RgbFormat::R8G8B8), &src[off..]);
     off + 3
 }
 
-// n texels of an RGB format from byte `from` on. Each arm hands its format and its size on as literals, so that the compiler makes a
+// As many texels of an RGB format from byte `from` on. Each arm hands its format and its size on as literals, so that the compiler makes a
 // loop of its own for it.
-fn read_rgb(block: &mut [u32], n: usize, src: &[u8], format: RgbFormat, from: usize) -> usize
-    requires { (0 < n) × (n ≤ length block.old) × (from + n * bytes_of (rgb_code format) ≤ length src.now) }
-    ensures { BlockRead src.now (rgb_code format) (bytes_of (rgb_code format)) from n block.new result }
+#[tactic(auto, using(crate::specs::Blocks::each_in), unfolding(formats::specs::Table::bytes_of, formats::specs::Table::parts_of))]
+fn read_rgb(block: &mut [u32], src: &[u8], format: RgbFormat, from: usize) -> usize
+    requires { (0 < length block.old) × (from + length block.old * bytes_of (rgb_code format) ≤ length src.now) }
+    ensures { BlockRead src.now (rgb_code format) (bytes_of (rgb_code format)) from (length block.old) block.new result }
 {
     match format {
-        RgbFormat::R8G8B8 => read_r8g8b8(block, n, src, from),
-        RgbFormat::A8R8G8B8 => read_rgb_block(block, n, src, RgbFormat::A8R8G8B8, 4, from),
-        RgbFormat::X8R8G8B8 => read_rgb_block(block, n, src, RgbFormat::X8R8G8B8, 4, from),
-        RgbFormat::R5G6B5 => read_rgb_block(block, n, src, RgbFormat::R5G6B5, 2, from),
-        RgbFormat::X1R5G5B5 => read_rgb_block(block, n, src, RgbFormat::X1R5G5B5, 2, from),
-        RgbFormat::A1R5G5B5 => read_rgb_block(block, n, src, RgbFormat::A1R5G5B5, 2, from),
-        RgbFormat::A4R4G4B4 => read_rgb_block(block, n, src, RgbFormat::A4R4G4B4, 2, from),
-        RgbFormat::A8 => read_rgb_block(block, n, src, RgbFormat::A8, 1, from),
-        RgbFormat::A8B8G8R8 => read_rgb_block(block, n, src, RgbFormat::A8B8G8R8, 4, from),
-        RgbFormat::X8B8G8R8 => read_rgb_block(block, n, src, RgbFormat::X8B8G8R8, 4, from),
-        RgbFormat::L8 => read_rgb_block(block, n, src, RgbFormat::L8, 1, from),
-        RgbFormat::A8L8 => read_rgb_block(block, n, src, RgbFormat::A8L8, 2, from),
+        RgbFormat::R8G8B8 => read_r8g8b8(block, src, from),
+        RgbFormat::A8R8G8B8 => read_rgb_block(block, src, RgbFormat::A8R8G8B8, 4, from),
+        RgbFormat::X8R8G8B8 => read_rgb_block(block, src, RgbFormat::X8R8G8B8, 4, from),
+        RgbFormat::R5G6B5 => read_rgb_block(block, src, RgbFormat::R5G6B5, 2, from),
+        RgbFormat::X1R5G5B5 => read_rgb_block(block, src, RgbFormat::X1R5G5B5, 2, from),
+        RgbFormat::A1R5G5B5 => read_rgb_block(block, src, RgbFormat::A1R5G5B5, 2, from),
+        RgbFormat::A4R4G4B4 => read_rgb_block(block, src, RgbFormat::A4R4G4B4, 2, from),
+        RgbFormat::A8 => read_rgb_block(block, src, RgbFormat::A8, 1, from),
+        RgbFormat::A8B8G8R8 => read_rgb_block(block, src, RgbFormat::A8B8G8R8, 4, from),
+        RgbFormat::X8B8G8R8 => read_rgb_block(block, src, RgbFormat::X8B8G8R8, 4, from),
+        RgbFormat::L8 => read_rgb_block(block, src, RgbFormat::L8, 1, from),
+        RgbFormat::A8L8 => read_rgb_block(block, src, RgbFormat::A8L8, 2, from),
     }
 }
 
 // The same of a source of whole numbers.
-fn read_codes(block: &mut [u32], n: usize, src: &[u8], format: CodeSource, from: usize) -> usize
-    requires { (0 < n) × (n ≤ length block.old) × (from + n * bytes_of (code_source_code format) ≤ length src.now) }
-    ensures { BlockRead src.now (code_source_code format) (bytes_of (code_source_code format)) from n block.new result }
+#[tactic(auto, using(crate::specs::Blocks::each_in), unfolding(formats::specs::Table::bytes_of, formats::specs::Table::parts_of))]
+fn read_codes(block: &mut [u32], src: &[u8], format: CodeSource, from: usize) -> usize
+    requires { (0 < length block.old) × (from + length block.old * bytes_of (code_source_code format) ≤ length src.now) }
+    ensures { BlockRead src.now (code_source_code format) (bytes_of (code_source_code format)) from (length block.old) block.new result }
 {
     match format {
-        CodeSource::A16B16G16R16 => read_code_block(
-            block,
-            n,
-            src,
-            CodeSource::A16B16G16R16,
-            8,
-            from,
-        ),
-        CodeSource::A2R10G10B10 => read_code_block(block, n, src, CodeSource::A2R10G10B10, 4, from),
-        CodeSource::A2B10G10R10 => read_code_block(block, n, src, CodeSource::A2B10G10R10, 4, from),
-        CodeSource::G16R16 => read_code_block(block, n, src, CodeSource::G16R16, 4, from),
-        CodeSource::L16 => read_code_block(block, n, src, CodeSource::L16, 2, from),
-        CodeSource::V8U8 => read_code_block(block, n, src, CodeSource::V8U8, 2, from),
-        CodeSource::Q8W8V8U8 => read_code_block(block, n, src, CodeSource::Q8W8V8U8, 4, from),
+        CodeSource::A16B16G16R16 => read_code_block(block, src, CodeSource::A16B16G16R16, 8, from),
+        CodeSource::A2R10G10B10 => read_code_block(block, src, CodeSource::A2R10G10B10, 4, from),
+        CodeSource::A2B10G10R10 => read_code_block(block, src, CodeSource::A2B10G10R10, 4, from),
+        CodeSource::G16R16 => read_code_block(block, src, CodeSource::G16R16, 4, from),
+        CodeSource::L16 => read_code_block(block, src, CodeSource::L16, 2, from),
+        CodeSource::V8U8 => read_code_block(block, src, CodeSource::V8U8, 2, from),
+        CodeSource::Q8W8V8U8 => read_code_block(block, src, CodeSource::Q8W8V8U8, 4, from),
     }
 }
 
-// n texels from byte `from` on, as words at the front of `block`; returns where the next one starts.
-pub fn read_texels(
-    block: &mut [u32],
-    n: usize,
-    src: &[u8],
-    format: LaneSource,
-    from: usize,
-) -> usize
-    requires { (0 < n) × (n ≤ length block.old) × (from + n * bytes_of (lane_source_code format) ≤ length src.now) }
-    ensures { BlockRead src.now (lane_source_code format) (bytes_of (lane_source_code format)) from n block.new result }
+// As many texels as `block` has words, from byte `from` on; returns where the next one starts.
+#[tactic(auto, using(crate::specs::Blocks::each_in), unfolding(formats::specs::Table::bytes_of, formats::specs::Table::parts_of))]
+pub fn read_texels(block: &mut [u32], src: &[u8], format: LaneSource, from: usize) -> usize
+    requires { (0 < length block.old) × (from + length block.old * bytes_of (lane_source_code format) ≤ length src.now) }
+    ensures { BlockRead src.now (lane_source_code format) (bytes_of (lane_source_code format)) from (length block.old) block.new result }
 {
     match format {
-        LaneSource::Rgb(rgb) => read_rgb(block, n, src, rgb, from),
-        LaneSource::Codes(codes) => read_codes(block, n, src, codes, from),
-        LaneSource::Floats => read_block(block, n, src, LaneSource::Floats, 16, from),
+        LaneSource::Rgb(rgb) => read_rgb(block, src, rgb, from),
+        LaneSource::Codes(codes) => read_codes(block, src, codes, from),
+        LaneSource::Floats => read_block(block, src, LaneSource::Floats, 16, from),
     }
 }
 
 // ---- writing
+
+// A count stands in these but `write_texels`: a word comes from a closure, and the buffer goes on behind what is written.
 
 // The texels of n words, in `size` bytes each from byte `to` on, where `word` gives the k-th; returns where the next one starts.
 fn write_block<W: Fn(usize) -> u32>(
@@ -152,7 +139,7 @@ fn write_block<W: Fn(usize) -> u32>(
 ) -> usize
     requires words { (k : ℕ) → k < n → W.pre word k }
     requires room { (size ≡ bytes_of (rgb_code format)) × (to + n * bytes_of (rgb_code format) ≤ length dst.old) }
-    ensures { (given : ℕ → ℕ) → Gives (W.post word) n given → WordsWritten given (rgb_code format) to n dst.old dst.new result }
+    ensures { AnswersWritten (W.post word) (rgb_code format) to n dst.old dst.new result }
 {
     let mut off = to;
     for k in 0..n {
@@ -163,6 +150,7 @@ fn write_block<W: Fn(usize) -> u32>(
 }
 
 // The same for the format at hand, which each arm hands on as a literal.
+#[tactic(auto, unfolding(formats::specs::Table::bytes_of, formats::specs::Table::parts_of))]
 fn write_words<W: Fn(usize) -> u32>(
     word: W,
     n: usize,
@@ -172,7 +160,7 @@ fn write_words<W: Fn(usize) -> u32>(
 ) -> usize
     requires words { (k : ℕ) → k < n → W.pre word k }
     requires room { (to + n * bytes_of (rgb_code format) ≤ length dst.old) }
-    ensures { (given : ℕ → ℕ) → Gives (W.post word) n given → WordsWritten given (rgb_code format) to n dst.old dst.new result }
+    ensures { AnswersWritten (W.post word) (rgb_code format) to n dst.old dst.new result }
 {
     match format {
         RgbFormat::R8G8B8 => write_block(word, n, dst, RgbFormat::R8G8B8, 3, to),
@@ -190,12 +178,12 @@ fn write_words<W: Fn(usize) -> u32>(
     }
 }
 
-// The texels of n words at the front of `block` from byte `to` on; returns where the next one starts.
-pub fn write_texels(block: &[u32], n: usize, dst: &mut [u8], format: RgbFormat, to: usize) -> usize
-    requires { (n ≤ length block.now) × (to + n * bytes_of (rgb_code format) ≤ length dst.old) }
-    ensures { WordsWritten (word_of block.now) (rgb_code format) to n dst.old dst.new result }
+// The texels of a block's words from byte `to` on; returns where the next one starts.
+pub fn write_texels(block: &[u32], dst: &mut [u8], format: RgbFormat, to: usize) -> usize
+    requires { to + length block.now * bytes_of (rgb_code format) ≤ length dst.old }
+    ensures { WordsWritten (word_of block.now) (rgb_code format) to (length block.now) dst.old dst.new result }
 {
-    write_words(|k| block[k], n, dst, format, to)
+    write_words(|k| block[k], block.len(), dst, format, to)
 }
 
 // The same of A8R8G8B8 texels from byte `from` of the source on. They need no block: they are such words where they lie.

@@ -1,7 +1,6 @@
 -- How near each way of reading or writing a channel comes to its exact value. Assumes nothing.
-use Rattle.std.specs.Prelude.{◌≡◌, ℕ, ◌*◌, ◌-◌, ◌^◌, ◌≤◌, ◌<◌}
+use Rattle.std.proofs.Common.{◌≡◌, ℕ, ◌*◌, ◌-◌, ◌^◌, ◌≤◌, ◌<◌, inl, inr, arith, le_of_lt, mul_assoc, lt-ltb, le-ltb}
 use Rattle.std.proofs.Math.Path.{refl}
-use Rattle.std.proofs.Common.{inl, inr, arith, le_of_lt, mul_assoc, lt-ltb, le-ltb}
 use Rattle.words.specs.Tests.{split}
 use Rattle.channels.specs.Fractions.{◌over◌, Near, whole_near, near_sym}
 use Rattle.channels.specs.Expansion.{expanded, truncated, expands, truncates}

@@ -1,6 +1,5 @@
 -- Laws on what specs/Expansion.antt defines, which rest on laws there. Assumes nothing.
-use Rattle.std.specs.Prelude.{◌≡◌, ℕ, ◌*◌, ◌-◌, ◌^◌, ◌≤◌, ◌<◌}
-use Rattle.std.proofs.Common.{sym, ap, ◌∙◌, inl, inr, arith, mul_right_comm}
+use Rattle.std.proofs.Common.{◌≡◌, ℕ, ◌*◌, ◌-◌, ◌^◌, ◌≤◌, ◌<◌, sym, ap, ◌∙◌, inl, inr, arith, mul_right_comm}
 use Rattle.words.specs.Tests.{split}
 use Rattle.channels.specs.Nearest.{step}
 use Rattle.channels.specs.Expansion.{expanded, expands}

@@ -1,6 +1,5 @@
 -- Laws on what specs/Nearest.antt defines, which rest on laws there. Assumes nothing.
-use Rattle.std.specs.Prelude.{◌≡◌, ℕ, ◌<◌}
-use Rattle.std.proofs.Common.{sym, subst}
+use Rattle.std.proofs.Common.{◌≡◌, ℕ, ◌<◌, sym, subst}
 use Rattle.channels.specs.Nearest.{NearestUp, rounded, rounded_up}
 
 -- ---- a number that is computed so is nearest

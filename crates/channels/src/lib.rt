@@ -32,6 +32,7 @@ pub fn expand<const WIDTH: u32>(v: u16) -> u8
 }
 
 // The WIDTH top bits of a byte.
+#[tactic(auto, unfolding(crate::specs::Expansion::truncated))]
 pub fn truncate<const WIDTH: u32>(v: u8) -> u16
     requires { (0 < WIDTH) × (WIDTH ≤ 8) }
     ensures { result ≡ truncated WIDTH v }
@@ -40,6 +41,7 @@ pub fn truncate<const WIDTH: u32>(v: u8) -> u16
 }
 
 // The luminance of a colour.
+#[tactic(auto, unfolding(crate::specs::Luminance::luminance_of))]
 pub fn luminance(r: u8, g: u8, b: u8) -> u8
     ensures { result ≡ luminance_of r g b }
 {
@@ -47,6 +49,7 @@ pub fn luminance(r: u8, g: u8, b: u8) -> u8
 }
 
 // The code nearest to a byte on a scale whose top code is max. 255 is odd, so there is no tie.
+#[tactic(auto, using(crate::specs::Nearest::rounded_by_half))]
 pub fn unorm8_to_nearest_code(channel: u8, max: u32) -> u32
     requires { max ≤ 65535 }
     ensures is { result ≡ rounded (channel * max) 255 }
@@ -63,6 +66,7 @@ pub fn unorm8_to_unorm16(channel: u8) -> u16
 }
 
 // The byte nearest to a code on a scale whose top code is max, a half up.
+#[tactic(auto, unfolding(crate::specs::Nearest::rounded))]
 pub fn nearest_byte(code: u32, max: u32) -> u8
     requires { (code ≤ max) × (0 < max) × (max ≤ 65535) }
     ensures is { result ≡ rounded (255 * code) max }
@@ -72,6 +76,7 @@ pub fn nearest_byte(code: u32, max: u32) -> u8
 }
 
 // The ten low bits of a word as the nearest byte. 1023 is odd, so there is no tie.
+#[tactic(auto, using(crate::specs::Nearest::is_odd))]
 pub fn unorm10_to_unorm8(v: u32) -> u8
     ensures is { result ≡ rounded (255 * (v % 1024)) 1023 }
     ensures nearest { Nearest (255 * (v % 1024)) 1023 result }
@@ -81,6 +86,7 @@ pub fn unorm10_to_unorm8(v: u32) -> u8
 
 // An eight-bit code with a sign, and 0 where it is negative: the sign bit takes it away, with no jump.
 // By `max` in its place L16 took 1.3 and G16R16 1.5 times as long to read (measured).
+#[tactic(auto, using(crate::proofs::ExactLaws::positive, crate::proofs::ExactLaws::negative))]
 fn not_negative8(code: u32) -> u32
     requires { code < 256 }
     ensures { result ≡ not_negative 8 code }
@@ -89,6 +95,7 @@ fn not_negative8(code: u32) -> u32
 }
 
 // The eight low bits of a word, a code with a sign, as the nearest byte: 0 where it is negative. 127 is odd, so there is no tie.
+#[tactic(auto, using(crate::proofs::ExactLaws::signed_le))]
 pub fn snorm8_to_unorm8(v: u32) -> u8
     ensures is { result ≡ rounded (255 * not_negative 8 (v % 256)) 127 }
     ensures nearest { Nearest (255 * not_negative 8 (v % 256)) 127 result }
@@ -135,6 +142,7 @@ pub fn f32_to_nearest_code(bits: u32, max: u64) -> u32
 }
 
 // A binary32 channel, given by its bits, as the nearest byte, a half up.
+#[tactic(auto, using(crate::specs::Nearest::rounded_le, crate::proofs::NearestLaws::is_up, crate::specs::Floats::bottom_pos))]
 pub fn f32_to_unorm8(bits: u32) -> u8
     ensures is { result ≡ rounded (255 * (clamped (of_bits binary32 bits)).top) (clamped (of_bits binary32 bits)).bottom }
     ensures nearest { NearestUp (255 * (clamped (of_bits binary32 bits)).top) (clamped (of_bits binary32 bits)).bottom result }

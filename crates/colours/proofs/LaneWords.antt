@@ -1,11 +1,7 @@
 -- A word made by shifts and ors, for any widths of its lanes: no two lanes share a bit, so an or is a sum.
 -- Assumes nothing.
-use mathlib.Core.Path.{◌≡◌, sym, ap, ap₂, ◌∙◌, subst}
-use Prim.Native.Nat.{ℕ, ◌+◌, ◌*◌, ◌%◌, ◌^◌, ◌≤◌, ◌<◌}
-use native.Mathlib.Omega.{arith}
-use native.Mathlib.Nat.{add-mul, mul_assoc, mul_comm, mul-le-mul_right, le_trans, le_of_eq}
-use lib.Bits.{bit_or, or_shifted}
-use lib.Pow.{pow-add, shl_lt, shl_exact}
+use Rattle.std.proofs.Common.{◌≡◌, sym, ap, ap₂, ◌∙◌, subst, ℕ, ◌+◌, ◌*◌, ◌%◌, ◌^◌, ◌≤◌, ◌<◌, arith, add-mul, mul_assoc, mul_comm, mul-le-mul_right, le_trans, le_of_eq, bit_or, pow-add, shl_lt, shl_exact}
+use lib.Bits.{or_shifted}
 use Rattle.channels.specs.Expansion.{truncated, truncates}
 use Rattle.channels.specs.Nearest.{rounded, rounded_le}
 

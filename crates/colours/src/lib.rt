@@ -55,6 +55,7 @@ fn unorm8_to_f32(channel: u8) -> f32
 }
 
 // The same as a binary32 pattern.
+#[tactic(auto, using(crate::specs::Color::unorm_number))]
 pub fn unorm8_to_f32_bits(channel: u8) -> u32
     ensures { result ≡ to_bits binary32 (unorm_of channel) }
 {

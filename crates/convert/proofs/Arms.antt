@@ -1,21 +1,13 @@
 -- The arms of the fill's `match`: what each one hands back is the defined fill, and a code of no arm has none.
 -- Assumes nothing.
-use mathlib.Core.Path.{◌≡◌, refl, sym, ap, ap₂, ◌∙◌, subst}
-use mathlib.Core.Bool.{Bool, true, false}
-use mathlib.Core.List.{List, [], ◌∷◌, ◌++◌}
-use lib.ListN.{replicate}
-use Prim.Native.Nat.{ℕ, zero, suc, ◌-◌, ◌/◌, ◌%◌, ◌^◌, ◌<◌}
-use native.Mathlib.Nat.{div-div-eq-div-mul, div-one, pow-suc}
-use native.Mathlib.Omega.{arith}
-use lib.Dec.{T}
+use Rattle.std.proofs.Common.{◌≡◌, refl, sym, ap, ap₂, ◌∙◌, subst, Bool, true, false, List, [], ◌∷◌, ◌++◌, replicate, ℕ, zero, suc, ◌-◌, ◌/◌, ◌%◌, ◌^◌, ◌<◌, div-one, pow-suc, arith, T, ne_eqb, Ok}
+use native.Mathlib.Nat.{div-div-eq-div-mul}
 use lib.Ieee.Bits.{is_true}
-use borrow.Author.Tests.{ne_eqb}
 use Rattle.words.specs.Computed.{both, both_left, both_right}
 use Rattle.words.specs.Tests.{pick}
 use Rattle.formats.specs.Classes.{listed}
 use Rattle.formats.specs.Table.{bytes_of}
 use Rattle.colours.specs.LaneCodes.{Codes, lane_code}
-use Rattle.std.specs.Prelude.{Ok}
 use Rattle.std.specs.Int.{byte_at, bytes_low_first}
 use Rattle.words.specs.Little.{bytes}
 use Rattle.convert.specs.Fill.{fill_formats, filled, refused, word_of, fill_of, handed}

@@ -40,6 +40,7 @@ fn fill<const N: usize>(word: [u8; N]) -> FillPixel
 
 // The code is the number that the C interface hands over: an arm names its format once, where a type would name it twice more.
 // One texel's bytes of a colour, for a fill. An X lane takes the colour's own alpha bits.
+#[tactic(auto, using(crate::proofs::Arms::no_arm))]
 pub fn d3dcolor_fill_pixel_bytes(color: u32, d3d_format: u32) -> Result<FillPixel, NoFill>
     ensures { handed result ≡ fill_of color d3d_format }
 {

@@ -1,6 +1,5 @@
 -- Where a reply does not look at the set. Assumes nothing.
-use Rattle.std.specs.Prelude.{◌≡◌, false, not, ℕ, Ok, Err}
-use Rattle.std.proofs.Common.{sym, ◌∙◌}
+use Rattle.std.proofs.Common.{◌≡◌, false, not, ℕ, Ok, Err, sym, ◌∙◌}
 use Rattle.words.specs.Tests.{pick}
 use Rattle.formats.specs.Classes.{is_yuv}
 use Rattle.yuv_sets.specs.declared.YuvSet.{YuvSet}

@@ -1,14 +1,12 @@
 -- Which pairs of formats convert, and the reply to a region.
 -- Assumes nothing.
-use Rattle.std.specs.Prelude.{◌≡◌, Bool, true, false, not, ◌&&◌, ◌||◌, List, [], ◌∷◌, ℕ, ◌%◌, eqb, length, Option, Some, None, Result, Ok, Err}
+use Rattle.std.specs.Prelude.{Bool, not, ◌&&◌, ◌||◌, List, [], ◌∷◌, ℕ, ◌%◌, eqb, length, Result, Ok, Err}
 use Rattle.words.specs.Tests.{pick}
 use Rattle.formats.specs.Codes.{A8R8G8B8}
 use Rattle.formats.specs.Classes.{is_convertible_rgb, is_packed_yuv, is_planar_yuv, is_yuv, is_argb_source}
-use Rattle.formats.specs.Formats.{rgb_code, source_code}
 use Rattle.yuv_sets.specs.declared.YuvSet.{YuvSet}
 use Rattle.yuv_sets.specs.Sets.{is_legal, bt601}
 use Rattle.convert_reply.specs.declared.ConvertRegion.{ConvertRegion}
-use Rattle.convert_reply.specs.declared.Pair.{Pair}
 use Rattle.convert_reply.specs.declared.ConvertRefusal.{ConvertRefusal}
 use Rattle.convert_reply.specs.declared.ConvertRefusal.TheVariants.{Unsupported, PlanarShape, SourceOutside, DestinationOutside, IllegalSet}
 use Rattle.places.specs.Places.{inside_all}
@@ -93,17 +91,6 @@ reply_number (Err r) = refusal_number r
 abbrev pub if_accepted {ℓ} : {A : Type ℓ} → Result (Unit {0}) ConvertRefusal → A → A → A
 if_accepted (Ok _) a b = a
 if_accepted (Err _) a b = b
-
--- ---- pairs of formats
--- the pair is that of two codes
-pub record Codes (p : Pair) (s d : ℕ) : Type 0 where
-  pub source : source_code p.source ≡ s
-  pub target : rgb_code p.target ≡ d
-
--- a pair was found for two codes, or they do not convert
-abbrev pub FoundPair : (s d : ℕ) → Option Pair → Type 0
-FoundPair s d (Some p) = Codes p s d × (can_convert s d ≡ true)
-FoundPair s d None = can_convert s d ≡ false
 
 -- a reply without the value that comes with acceptance
 abbrev pub without_value : {A : Type 0} → Result A ConvertRefusal → Result (Unit {0}) ConvertRefusal

@@ -4,12 +4,20 @@
 // Ported from pixel_convert.rs of athei/mtld3d (an altered version, see NOTICE).
 #![tactic(auto)]
 
-ghost use Rattle.std.specs.Prelude.{◌≡◌, true, false, IfOk};
+ghost use Rattle.std.specs.Prelude.{◌≡◌, ◌+◌, ◌^◌, ◌<◌, IfOk};
 ghost use Rattle.formats.specs.Formats.{rgb_code, source_code};
-ghost use Rattle.convert_reply.specs.Replies.{can_convert_update, can_convert, bad_planar_shape, illegal_set, is_empty, source_inside, destination_inside, reply_to, refusal_number, without_value, Codes, FoundPair};
+ghost use Rattle.convert_reply.specs.Replies.{can_convert_update, can_convert, bad_planar_shape, illegal_set, is_empty, reply_to, refusal_number, without_value};
+ghost use Rattle.convert_reply.specs.Pairs.{Codes, FoundPair};
 
-use formats::{D3DFMT_A8R8G8B8, LaneSource, RgbFormat, SourceFormat};
-use yuv_sets::YuvSet;
+use formats::{D3DFMT_A8R8G8B8, LaneSource, RgbFormat, SourceFormat, YuvFormat};
+use places::{Part, Pitches, Spot};
+use yuv_sets::{LegalSet, YuvSet};
+
+mod conversion;
+mod pair;
+
+pub use conversion::Conversion;
+pub use pair::Pair;
 
 // One conversion: the shared extent and both origins in texels, both layouts in bytes. `depth` counts the slices, which lie a
 // slice pitch apart.
@@ -26,6 +34,112 @@ pub struct ConvertRegion {
     pub src_slice_pitch: usize,
     pub dst_slice_pitch: usize,
     pub depth: usize,
+}
+
+// There are two of each of the methods of a region and of its rows, for source and destination: the definitions, as the C interface,
+// have flat fields for both, and one method would take a flag and both branches.
+
+impl ConvertRegion {
+    // How rows and slices of the source lie.
+    pub fn source_pitches(self) -> Pitches
+        ensures row { result.row ≡ self.src_pitch }
+        ensures slice { result.slice ≡ self.src_slice_pitch }
+    {
+        Pitches {
+            row: self.src_pitch,
+            slice: self.src_slice_pitch,
+        }
+    }
+
+    // How rows and slices of the destination lie.
+    pub fn destination_pitches(self) -> Pitches
+        ensures row { result.row ≡ self.dst_pitch }
+        ensures slice { result.slice ≡ self.dst_slice_pitch }
+    {
+        Pitches {
+            row: self.dst_pitch,
+            slice: self.dst_slice_pitch,
+        }
+    }
+
+    // The texels that are read.
+    pub fn source_part(self) -> Part
+        ensures x { result.x ≡ self.src_x }
+        ensures y { result.y ≡ self.src_y }
+        ensures width { result.width ≡ self.width }
+        ensures height { result.height ≡ self.height }
+        ensures depth { result.depth ≡ self.depth }
+    {
+        Part {
+            x: self.src_x,
+            y: self.src_y,
+            width: self.width,
+            height: self.height,
+            depth: self.depth,
+        }
+    }
+
+    // The texels that are written.
+    pub fn destination_part(self) -> Part
+        ensures x { result.x ≡ self.dst_x }
+        ensures y { result.y ≡ self.dst_y }
+        ensures width { result.width ≡ self.width }
+        ensures height { result.height ≡ self.height }
+        ensures depth { result.depth ≡ self.depth }
+    {
+        Part {
+            x: self.dst_x,
+            y: self.dst_y,
+            width: self.width,
+            height: self.height,
+            depth: self.depth,
+        }
+    }
+}
+
+// Row `row` of slice `z` of a region.
+#[derive(Clone, Copy)]
+pub struct RegionRow {
+    pub region: ConvertRegion,
+    pub z: usize,
+    pub row: usize,
+}
+
+impl RegionRow {
+    // Where the source texel of a column of the row is.
+    pub fn source_spot(self, column: usize) -> Spot
+        requires { (self.region.src_y + self.row < 2 ^ 64) × (self.region.src_x + column < 2 ^ 64) }
+        ensures z { result.z ≡ self.z }
+        ensures y { result.y ≡ self.region.src_y + self.row }
+        ensures x { result.x ≡ self.region.src_x + column }
+    {
+        Spot {
+            z: self.z,
+            y: self.region.src_y as usize + self.row,
+            x: self.region.src_x as usize + column,
+        }
+    }
+
+    // Where the destination texel of a column of the row is.
+    pub fn destination_spot(self, column: usize) -> Spot
+        requires { (self.region.dst_y + self.row < 2 ^ 64) × (self.region.dst_x + column < 2 ^ 64) }
+        ensures z { result.z ≡ self.z }
+        ensures y { result.y ≡ self.region.dst_y + self.row }
+        ensures x { result.x ≡ self.region.dst_x + column }
+    {
+        Spot {
+            z: self.z,
+            y: self.region.dst_y as usize + self.row,
+            x: self.region.dst_x as usize + column,
+        }
+    }
+}
+
+// A YUV source: its format and the legal set that it is converted by.
+#[derive(Clone, Copy)]
+pub struct YuvSource {
+    pub format: YuvFormat,
+    pub set: LegalSet,
 }
 
 // Why a conversion is refused; `refusal_number` of specs/ has the numbers: 1 to 4 in this order, and 15.
@@ -92,57 +206,12 @@ fn illegal_set(source: SourceFormat, numbers: YuvSet) -> bool
     source.is_yuv() && !yuv_sets::is_legal(numbers)
 }
 
-// Whether every source texel of a region that is not empty lies within len bytes.
-#[tactic(auto, using(crate::specs::Passed::sizes), unfolding(crate::specs::Replies::source_inside))]
-fn source_inside(len: usize, source: SourceFormat, region: ConvertRegion) -> bool
-    requires { is_empty region ≡ false }
-    ensures { result ≡ source_inside len (source_code source) region }
-{
-    places::inside(
-        len,
-        source,
-        region.src_pitch,
-        region.src_slice_pitch,
-        region.src_x,
-        region.src_y,
-        region.width,
-        region.height,
-        region.depth,
-    )
-}
-
-// The same of the destination: the two read other fields of the region, and one function of both would take a flag and both branches.
-#[tactic(auto, using(crate::specs::Passed::sizes), unfolding(crate::specs::Replies::destination_inside))]
-fn destination_inside(len: usize, target: RgbFormat, region: ConvertRegion) -> bool
-    requires { is_empty region ≡ false }
-    ensures { result ≡ destination_inside len (rgb_code target) region }
-{
-    places::inside(
-        len,
-        SourceFormat::Lanes(LaneSource::Rgb(target)),
-        region.dst_pitch,
-        region.dst_slice_pitch,
-        region.dst_x,
-        region.dst_y,
-        region.width,
-        region.height,
-        region.depth,
-    )
-}
-
 // Whether a region has no texel.
 #[tactic(auto, unfolding(crate::specs::Replies::is_empty))]
 pub fn is_empty(region: ConvertRegion) -> bool
     ensures { result ≡ is_empty region }
 {
     region.width == 0 || region.height == 0 || region.depth == 0
-}
-
-// The formats of a pair that converts.
-#[derive(Clone, Copy)]
-pub struct Pair {
-    pub source: SourceFormat,
-    pub target: RgbFormat,
 }
 
 // The pair of two codes, if it converts.
@@ -158,17 +227,18 @@ fn pair_of(src_format: u32, dst_format: u32) -> Option<Pair>
     Some(Pair { source, target })
 }
 
-// Whether a conversion of a pair is accepted: the checks behind the first, in their order.
-#[tactic(auto, unfolding(crate::specs::Replies::reply_to))]
+// The conversion of a pair, or why it is refused: the checks behind the first, in their order.
+#[tactic(auto, using(crate::specs::Passed::sizes), unfolding(crate::specs::Replies::reply_to, crate::specs::Replies::source_inside, crate::specs::Replies::destination_inside))]
 fn check_pair(
     src_len: usize,
     dst_len: usize,
     pair: Pair,
     region: ConvertRegion,
     numbers: YuvSet,
-) -> Result<(), ConvertRefusal>
-    requires { can_convert (source_code pair.source) (rgb_code pair.target) ≡ true }
-    ensures { result ≡ reply_to numbers (source_code pair.source) (rgb_code pair.target) region src_len dst_len }
+) -> Result<Conversion, ConvertRefusal>
+    ensures reply { without_value result ≡ reply_to numbers (source_code pair.source) (rgb_code pair.target) region src_len dst_len }
+    ensures pair { IfOk result (λ c. Codes c.pair (source_code pair.source) (rgb_code pair.target)) }
+    ensures numbers { IfOk result (λ c. c.numbers ≡ numbers) }
 {
     if bad_planar_shape(pair.source, region) {
         return Err(ConvertRefusal::PlanarShape);
@@ -176,19 +246,36 @@ fn check_pair(
     if illegal_set(pair.source, numbers) {
         return Err(ConvertRefusal::IllegalSet);
     }
+    let conversion = Conversion {
+        pair,
+        numbers,
+        from_size: pair.source.bytes_per_texel(),
+        to_size: pair.target.bytes_per_texel(),
+    };
     if is_empty(region) {
-        return Ok(());
+        return Ok(conversion);
     }
-    if !source_inside(src_len, pair.source, region) {
+    if !places::inside(
+        src_len,
+        pair.source,
+        region.source_pitches(),
+        region.source_part(),
+    ) {
         return Err(ConvertRefusal::SourceOutside);
     }
-    if !destination_inside(dst_len, pair.target, region) {
+    let target = SourceFormat::Lanes(LaneSource::Rgb(pair.target));
+    if !places::inside(
+        dst_len,
+        target,
+        region.destination_pitches(),
+        region.destination_part(),
+    ) {
         return Err(ConvertRefusal::DestinationOutside);
     }
-    Ok(())
+    Ok(conversion)
 }
 
-// The formats of a conversion by a set of numbers, or why it is refused, from the lengths of its buffers: the checks in their order.
+// The conversion between two formats by a set of numbers, or why it is refused, from the lengths of its buffers: the checks in their order.
 #[tactic(auto, using(crate::specs::Passed::no_pair))]
 pub fn check(
     src_len: usize,
@@ -197,13 +284,13 @@ pub fn check(
     dst_format: u32,
     region: ConvertRegion,
     numbers: YuvSet,
-) -> Result<Pair, ConvertRefusal>
+) -> Result<Conversion, ConvertRefusal>
     ensures reply { without_value result ≡ reply_to numbers src_format dst_format region src_len dst_len }
-    ensures pair { IfOk result (λ p. Codes p src_format dst_format) }
+    ensures pair { IfOk result (λ c. Codes c.pair src_format dst_format) }
+    ensures numbers { IfOk result (λ c. c.numbers ≡ numbers) }
 {
     let Some(pair) = pair_of(src_format, dst_format) else {
         return Err(ConvertRefusal::Unsupported);
     };
-    check_pair(src_len, dst_len, pair, region, numbers)?;
-    Ok(pair)
+    check_pair(src_len, dst_len, pair, region, numbers)
 }

@@ -1,10 +1,5 @@
 -- What unpacking and packing owe where they are accepted. Assumes nothing.
-use mathlib.Core.Path.{◌≡◌, refl, sym, ap, ap₂, ◌∙◌, subst}
-use mathlib.Core.Bool.{Bool, true, false}
-use mathlib.Core.List.{List}
-use Prim.Native.Nat.{ℕ, ◌<◌}
-use lib.Dec.{eqb, lit<}
-use lib.ListN.{length, get_or}
+use Rattle.std.proofs.Common.{◌≡◌, refl, sym, ap, ap₂, ◌∙◌, subst, Bool, true, false, List, ℕ, ◌<◌, eqb, lit<, length, get_or}
 use Rattle.words.specs.Little.{small_list}
 use Rattle.words.specs.Tests.{pick}
 use Rattle.formats.specs.Table.{bytes_of}

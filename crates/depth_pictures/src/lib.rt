@@ -3,20 +3,23 @@
 // Ported from depth_texture.rs of athei/mtld3d (an altered version, see NOTICE).
 #![tactic(auto)]
 
-ghost use Rattle.std.specs.Prelude.{◌≡◌, length};
+ghost use Rattle.std.specs.Prelude.{◌≡◌, ◌*◌, ◌≤◌, length};
 ghost use Rattle.formats.specs.Table.{bytes_of};
 ghost use Rattle.depth_pixels.specs.Pixels.{format_code, KeepsAll};
 ghost use Rattle.depth_texture.specs.Replies.{reply_number, refusal_of, Accepts};
 ghost use Rattle.depth_texture.specs.Planes.{depth_plane, stencil_plane, packed_pixels, if_accepted, unpacked_depth, unpacked_stencil, packed_buffer};
+ghost use Rattle.depth_pictures.specs.Rows.{row_of};
 ghost use Rattle.depth_texture.specs.Promises.{first_refusal, SamePixels, Restores, SameElsewhere, PlanesKept, NearestCodes};
 
 use depth_pixels::PackedDepth;
+use depth_rows::Row;
 use depth_texture::{DepthRefusal, PlaneLayout};
 
 // ---- formats are numbers here, as the C interface hands them over
 
 // Each pixel's depth goes to the depth plane, and its stencil, where the format has one, to the stencil plane. Without a stencil
 // that plane is not written, and it may be empty.
+#[tactic(auto, using(crate::proofs::Calls::unpack_accepted))]
 pub fn unpack(
     layout: PlaneLayout,
     format: u32,
@@ -43,6 +46,7 @@ pub fn unpack(
 
 // Each pixel is packed from the depth plane's binary32 number, whatever it is, and the stencil plane's byte, where the format has
 // a stencil. Without one that plane is not read.
+#[tactic(auto, using(depth_texture::proofs::RoundTrip::packed_refused, crate::proofs::Calls::pack_accepted))]
 pub fn pack(
     layout: PlaneLayout,
     format: u32,
@@ -67,7 +71,21 @@ pub fn pack(
     Ok(())
 }
 
+// The places of row y.
+fn row_at(layout: PlaneLayout, packed_pitch: usize, y: usize) -> Row
+    requires { (y * packed_pitch ≤ 18446744073709551615) × (y * layout.depth_pitch ≤ 18446744073709551615) × (y * layout.stencil_pitch ≤ 18446744073709551615) }
+    ensures { result ≡ row_of layout packed_pitch y }
+{
+    Row {
+        packed: y * packed_pitch,
+        depth: y * layout.depth_pitch,
+        stencil: y * layout.stencil_pitch,
+        width: layout.width,
+    }
+}
+
 // Every row of a picture whose buffers were tested.
+#[tactic(auto, using(depth_pixels::specs::Pictures::rows_none), unfolding(depth_texture::specs::Planes::depth_plane, depth_texture::specs::Planes::stencil_plane))]
 fn unpack_rows(
     layout: PlaneLayout,
     kind: PackedDepth,
@@ -81,14 +99,13 @@ fn unpack_rows(
     ensures stencil { stencil.new ≡ stencil_plane (format_code kind) layout packed.now packed_pitch stencil.old }
 {
     for y in 0..layout.height {
-        let from = y * packed_pitch;
-        let to = y * layout.depth_pitch;
-        let at = y * layout.stencil_pitch;
-        depth_rows::unpack_row(kind, packed, from, depth, to, stencil, at, layout.width);
+        let row = row_at(layout, packed_pitch, y);
+        depth_rows::unpack_row(kind, packed, depth, stencil, row);
     }
 }
 
 // Every row of a picture whose buffers were tested.
+#[tactic(auto, using(depth_pixels::specs::Pictures::rows_none), unfolding(depth_texture::specs::Planes::packed_pixels))]
 fn pack_rows(
     layout: PlaneLayout,
     kind: PackedDepth,
@@ -101,15 +118,13 @@ fn pack_rows(
     ensures { packed.new ≡ packed_pixels (format_code kind) layout depth.now stencil.now packed_pitch packed.old }
 {
     for y in 0..layout.height {
-        let to = y * packed_pitch;
-        let from = y * layout.depth_pitch;
-        let at = y * layout.stencil_pitch;
-        depth_rows::pack_row(kind, packed, to, depth, from, stencil, at, layout.width);
+        let row = row_at(layout, packed_pitch, y);
+        depth_rows::pack_row(kind, packed, depth, stencil, row);
     }
 }
 
 // THE ROUND TRIP: unpacking, and then packing the planes into another buffer with a pitch of its own, puts back every pixel. It rests on
-// what `unpack` and `pack` promise alone.
+// what `unpack` and `pack` promise alone, and has the parameters of both.
 pub fn restore(
     layout: PlaneLayout,
     format: u32,

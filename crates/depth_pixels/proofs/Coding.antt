@@ -1,10 +1,5 @@
 -- A pixel decoded by one division, and encoded by one word, for any format and its largest code. Assumes nothing.
-use mathlib.Core.Path.{◌≡◌, refl, sym, ap, ap₂, ◌∙◌}
-use mathlib.Core.List.{List}
-use Prim.Native.Nat.{ℕ, ◌*◌, ◌≤◌}
-use lib.IntN.{pos}
-use lib.Dec.{T, le→leb}
-use lib.ListN.{take}
+use Rattle.std.proofs.Common.{◌≡◌, refl, sym, ap, ap₂, ◌∙◌, List, ℕ, ◌*◌, ◌≤◌, pos, T, le→leb, take}
 use lib.Seq.{sets}
 use lib.Ieee.{binary32, of_int, of_bits, div, in_float}
 use lib.Ieee.Nearest.{closest}

@@ -1,6 +1,5 @@
 -- Packing a pixel's own code and stencil gives its word back where the format has no X. Assumes nothing.
-use Rattle.std.specs.Prelude.{◌≡◌, ℕ, ◌*◌, ◌^◌, ◌<◌}
-use Rattle.std.proofs.Common.{sym, subst, ⊎_elim, arith}
+use Rattle.std.proofs.Common.{◌≡◌, ℕ, ◌*◌, ◌^◌, ◌<◌, sym, subst, ⊎_elim, arith}
 use Rattle.formats.specs.Codes as codes
 use Rattle.formats.specs.Table.{parts_of, lane_of, bytes_of}
 use Rattle.depth_pixels.specs.Pixels.{depth_code, stencil_code, pixel_word, KeepsAll}

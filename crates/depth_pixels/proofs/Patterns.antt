@@ -1,10 +1,6 @@
 -- The code of a depth as a half is rounded up, and a NaN, which counts as 0. Assumes nothing.
-use mathlib.Core.Path.{◌≡◌, refl, sym, ap, ◌∙◌, subst}
-use mathlib.Core.Bool.{true, not, true≢false}
-use Prim.Native.Nat.{ℕ, ◌*◌, ◌%◌, ◌≤◌}
-use native.Mathlib.Nat.{mul_comm}
-use lib.Dec.{T}
-use lib.Ieee.{Float, nan, inf, fin, binary32, of_bits, of_fields, odd, is_nan}
+use Rattle.std.proofs.Common.{◌≡◌, refl, sym, ap, ◌∙◌, subst, true, not, true≢false, ℕ, ◌*◌, ◌%◌, ◌≤◌, mul_comm, T, Float}
+use lib.Ieee.{nan, inf, fin, binary32, of_bits, of_fields, odd, is_nan}
 use lib.Ieee.Nearest.{closest}
 use Rattle.channels.specs.Nearest.{rounded}
 use Rattle.channels.specs.Even.{alike}

@@ -1,12 +1,8 @@
 -- A picture in a list of bytes: pixel (x, y) has its `size` bytes at y * pitch + x * size. What writing all pixels makes of a list,
 -- for any content: each pixel holds its own bytes, and every other byte is as it was.
 -- Assumes nothing.
-use Rattle.std.specs.Prelude.{◌≡◌, ◌⊎◌, ℕ, ◌+◌, ◌-◌, ◌*◌, ◌≤◌, ◌<◌, drop}
-use Rattle.std.proofs.Math.Path.{refl, ap}
-use Rattle.std.proofs.Common.{sym, ◌∙◌, subst, mul-le-mul_right, mul_comm, arith}
-use mathlib.Core.List.{List}
-use Rattle.std.proofs.Math.Logic.{inl, inr}
-use Rattle.std.proofs.Math.ListN.{length, get_or, take}
+use Rattle.std.specs.Prelude.{◌≡◌, ◌⊎◌, ℕ, ◌+◌, ◌-◌, ◌*◌, ◌≤◌, ◌<◌, drop, refl, List, length, get_or, take}
+use Rattle.std.proofs.Common.{ap, sym, ◌∙◌, subst, mul-le-mul_right, mul_comm, arith, inl, inr}
 use Rattle.std.proofs.Math.Arith.{lt_of_le-ne}
 use Rattle.std.proofs.Math.Seq.{sets, length-sets}
 use Rattle.words.specs.Iterate.{iterate, iterate_zero, iterate_keeps, iterate_same}

@@ -145,8 +145,12 @@ pub struct D24X8;
 // The code lies above the stencil byte.
 pub struct D24S8;
 
+// The largest code stays a number in these two: each format hands over its own as a literal, and a type for it would be made of the
+// same literal with the same two facts.
+
 // The code of the depth with these bits, where max is the largest code: the only tie is at one half, where the upper code is the
 // even one, as max is 3 above a multiple of 4.
+#[tactic(auto, using(crate::proofs::Patterns::code_rounded))]
 fn code_of_bits(max: u64, bits: u32) -> u64
     requires { (max < 16777216) × (max % 4 ≡ 3) }
     ensures { result ≡ code_for max (of_bits binary32 bits) }
@@ -163,6 +167,7 @@ fn code_of(max: u64, depth: f32) -> u64
 }
 
 // The same depth and stencil, with 0 for a NaN, which has no bits of its own.
+#[tactic(auto, using(crate::proofs::Patterns::tested_nan))]
 fn without_nan(value: DepthStencil) -> DepthStencil
     ensures same { (clamped result.depth ≡ clamped value.depth) × (result.stencil ≡ value.stencil) }
     ensures number { T (not (is_nan result.depth)) }
@@ -255,6 +260,7 @@ impl PackedPixel for D24S8 {
 
     ghost kind = { kinds.D24S8 };
 
+    #[tactic(auto, using(crate::specs::PackedFormats::size_d24s8, crate::specs::PackedFormats::max_d24s8, crate::specs::PackedFormats::code_d24s8, crate::specs::PackedFormats::stencil_of_d24s8, crate::proofs::Coding::literal_24, crate::proofs::Coding::word_read, crate::proofs::Coding::decodes))]
     fn decode(pixel: &[u8]) -> DepthStencil {
         let word = le32(pixel);
         DepthStencil {

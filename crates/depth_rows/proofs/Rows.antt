@@ -1,15 +1,8 @@
 -- A row by its columns; one pixel of it, where what was decoded from a part of the packed row is stored and what was loaded is packed; and the rows of
 -- a picture. Assumes nothing.
-use mathlib.Core.Path.{◌≡◌, refl, sym, ap, ap₂, ◌∙◌, subst}
-use mathlib.Core.Bool.{Bool, true, false, not, true≢false}
-use mathlib.Core.List.{List, ◌++◌}
-use Prim.Native.Nat.{ℕ, ◌+◌, ◌-◌, ◌*◌, ◌≤◌}
-use native.Mathlib.Nat.{mul-one, mod-eq_of_lt, le_trans, le_of_lt}
-use native.Mathlib.Omega.{arith}
-use lib.Dec.{T}
-use lib.ListN.{length, take, drop, set, get_or}
+use Rattle.std.proofs.Common.{◌≡◌, refl, sym, ap, ap₂, ◌∙◌, subst, Bool, true, false, not, true≢false, List, ◌++◌, ℕ, ◌+◌, ◌-◌, ◌*◌, ◌≤◌, mul-one, mod-eq_of_lt, le_trans, le_of_lt, arith, T, length, take, drop, set, get_or, Float, to_bits, is_nan}
 use lib.Seq.{sets}
-use lib.Ieee.{Float, binary32, to_bits, is_nan}
+use lib.Ieee.{binary32}
 use Rattle.words.specs.Little.{bytes, number, length_bytes}
 use Rattle.words.specs.Slices.{part_read, part_back}
 use Rattle.words.specs.Tests.{pick}

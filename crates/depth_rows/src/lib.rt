@@ -9,14 +9,24 @@ ghost use Rattle.words.specs.Tests.{pick};
 ghost use Rattle.formats.specs.Table.{bytes_of};
 ghost use Rattle.channels.specs.Floats.{clamped};
 ghost use Rattle.depth_pixels.specs.Pixels.{format_code, has_stencil};
-ghost use Rattle.depth_pixels.specs.Pictures.{RowIn};
 ghost use Rattle.depth_pixels.specs.PixelBytes.{depth_at, stencil_at, depth_row, stencil_row, packed_row};
+ghost use Rattle.depth_rows.specs.Rows.{RowWithin};
 
 use depth_pixels::{D16, D24S8, D24X8, DepthStencil, PackedDepth, PackedPixel, store_depth};
 use words::le32;
 
+// Where the pixels of a row lie, from which byte on in the packed picture, in the depth plane and in the stencil plane, and how many
+// they are.
+#[derive(Clone, Copy)]
+pub struct Row {
+    pub packed: usize,
+    pub depth: usize,
+    pub stencil: usize,
+    pub width: usize,
+}
+
 // The depth whose four bytes begin at byte `at` of a depth plane. A NaN's bytes and those of a negative number count as 0.
-#[tactic(auto, using(crate::proofs::AboveInfinity::above_infinity))]
+#[tactic(auto, using(crate::proofs::AboveInfinity::above_infinity), unfolding(depth_pixels::specs::PixelBytes::depth_at))]
 fn load_depth(plane: &[u8], at: usize) -> f32
     requires { at + 4 ≤ length plane.now }
     ensures same { clamped result ≡ clamped (depth_at plane.now at) }
@@ -29,92 +39,69 @@ fn load_depth(plane: &[u8], at: usize) -> f32
     f32::from_bits(bits)
 }
 
-// A row of pixels of one format from byte `from` on, into the depth plane from byte `to` on and the stencil plane from byte `at` on.
-fn unpack_pixels<P: PackedPixel>(
-    packed: &[u8],
-    from: usize,
-    depth: &mut [u8],
-    to: usize,
-    stencil: &mut [u8],
-    at: usize,
-    width: usize,
-)
-    requires { (RowIn (length packed.now) from (bytes_of (format_code P.kind)) width) × (RowIn (length depth.old) to 4 width) × (has_stencil (format_code P.kind) ≡ true → RowIn (length stencil.old) at 1 width) }
-    ensures depth { depth.new ≡ depth_row (format_code P.kind) packed.now from to width depth.old }
-    ensures stencil { stencil.new ≡ stencil_row (format_code P.kind) packed.now from at width stencil.old }
+// That a row lies within its buffers (`RowWithin`) is asked of the caller and is no field of `Row`: it speaks of the lengths of what is
+// lent, and a struct would have to hold the three buffers, of which one or two are written.
+
+// A row of pixels of one format, into its places in both planes.
+#[tactic(auto, using(crate::proofs::Rows::depths_begun, crate::proofs::Rows::depths_next, crate::proofs::Rows::stencils_begun, crate::proofs::Rows::stencils_next, crate::proofs::Rows::stencils_kept, crate::proofs::Rows::depth_stored, crate::proofs::Rows::stencil_stored, crate::proofs::Rows::decoded_no_nan))]
+fn unpack_pixels<P: PackedPixel>(packed: &[u8], depth: &mut [u8], stencil: &mut [u8], row: Row)
+    requires { RowWithin (format_code P.kind) (length packed.now) (length depth.old) (length stencil.old) row }
+    ensures depth { depth.new ≡ depth_row (format_code P.kind) packed.now row.packed row.depth row.width depth.old }
+    ensures stencil { stencil.new ≡ stencil_row (format_code P.kind) packed.now row.packed row.stencil row.width stencil.old }
 {
-    for x in 0..width {
-        let first = from + x * P::SIZE;
+    for x in 0..row.width {
+        let first = row.packed + x * P::SIZE;
         let pixel = P::decode(&packed[first..]);
-        store_depth(depth, to + x * 4, pixel.depth);
+        store_depth(depth, row.depth + x * 4, pixel.depth);
         if P::STENCIL {
-            stencil[at + x] = pixel.stencil;
+            stencil[row.stencil + x] = pixel.stencil;
         }
     }
 }
 
 // The same way back.
-fn pack_pixels<P: PackedPixel>(
-    packed: &mut [u8],
-    to: usize,
-    depth: &[u8],
-    from: usize,
-    stencil: &[u8],
-    at: usize,
-    width: usize,
-)
-    requires { (RowIn (length packed.old) to (bytes_of (format_code P.kind)) width) × (RowIn (length depth.now) from 4 width) × (has_stencil (format_code P.kind) ≡ true → RowIn (length stencil.now) at 1 width) }
-    ensures { packed.new ≡ packed_row (format_code P.kind) depth.now stencil.now from at to width packed.old }
+#[tactic(auto, using(crate::proofs::Rows::packed_begun, crate::proofs::Rows::packed_next, crate::proofs::Rows::stencil_read, crate::proofs::Rows::no_stencil_read, crate::proofs::Rows::pixel_stored))]
+fn pack_pixels<P: PackedPixel>(packed: &mut [u8], depth: &[u8], stencil: &[u8], row: Row)
+    requires { RowWithin (format_code P.kind) (length packed.old) (length depth.now) (length stencil.now) row }
+    ensures { packed.new ≡ packed_row (format_code P.kind) depth.now stencil.now row.depth row.stencil row.packed row.width packed.old }
 {
-    for x in 0..width {
+    for x in 0..row.width {
         let value = DepthStencil {
-            depth: load_depth(depth, from + x * 4),
-            stencil: if P::STENCIL { stencil[at + x] } else { 0 },
+            depth: load_depth(depth, row.depth + x * 4),
+            stencil: if P::STENCIL {
+                stencil[row.stencil + x]
+            } else {
+                0
+            },
         };
-        let first = to + x * P::SIZE;
+        let first = row.packed + x * P::SIZE;
         P::encode(value, &mut packed[first..]);
     }
 }
 
-// A row of packed pixels from byte `from` on, into the depth plane from byte `to` on and the stencil plane from byte `at` on.
-pub fn unpack_row(
-    kind: PackedDepth,
-    packed: &[u8],
-    from: usize,
-    depth: &mut [u8],
-    to: usize,
-    stencil: &mut [u8],
-    at: usize,
-    width: usize,
-)
-    requires { (RowIn (length packed.now) from (bytes_of (format_code kind)) width) × (RowIn (length depth.old) to 4 width) × (has_stencil (format_code kind) ≡ true → RowIn (length stencil.old) at 1 width) }
-    ensures depth { depth.new ≡ depth_row (format_code kind) packed.now from to width depth.old }
-    ensures stencil { stencil.new ≡ stencil_row (format_code kind) packed.now from at width stencil.old }
+// No table of functions in these two: the compiler makes a loop for each format.
+
+// A row of packed pixels, into its places in both planes.
+pub fn unpack_row(kind: PackedDepth, packed: &[u8], depth: &mut [u8], stencil: &mut [u8], row: Row)
+    requires { RowWithin (format_code kind) (length packed.now) (length depth.old) (length stencil.old) row }
+    ensures depth { depth.new ≡ depth_row (format_code kind) packed.now row.packed row.depth row.width depth.old }
+    ensures stencil { stencil.new ≡ stencil_row (format_code kind) packed.now row.packed row.stencil row.width stencil.old }
 {
     match kind {
-        PackedDepth::D16 => unpack_pixels::<D16>(packed, from, depth, to, stencil, at, width),
-        PackedDepth::D24X8 => unpack_pixels::<D24X8>(packed, from, depth, to, stencil, at, width),
-        PackedDepth::D24S8 => unpack_pixels::<D24S8>(packed, from, depth, to, stencil, at, width),
+        PackedDepth::D16 => unpack_pixels::<D16>(packed, depth, stencil, row),
+        PackedDepth::D24X8 => unpack_pixels::<D24X8>(packed, depth, stencil, row),
+        PackedDepth::D24S8 => unpack_pixels::<D24S8>(packed, depth, stencil, row),
     }
 }
 
 // The same way back.
-pub fn pack_row(
-    kind: PackedDepth,
-    packed: &mut [u8],
-    to: usize,
-    depth: &[u8],
-    from: usize,
-    stencil: &[u8],
-    at: usize,
-    width: usize,
-)
-    requires { (RowIn (length packed.old) to (bytes_of (format_code kind)) width) × (RowIn (length depth.now) from 4 width) × (has_stencil (format_code kind) ≡ true → RowIn (length stencil.now) at 1 width) }
-    ensures { packed.new ≡ packed_row (format_code kind) depth.now stencil.now from at to width packed.old }
+pub fn pack_row(kind: PackedDepth, packed: &mut [u8], depth: &[u8], stencil: &[u8], row: Row)
+    requires { RowWithin (format_code kind) (length packed.old) (length depth.now) (length stencil.now) row }
+    ensures { packed.new ≡ packed_row (format_code kind) depth.now stencil.now row.depth row.stencil row.packed row.width packed.old }
 {
     match kind {
-        PackedDepth::D16 => pack_pixels::<D16>(packed, to, depth, from, stencil, at, width),
-        PackedDepth::D24X8 => pack_pixels::<D24X8>(packed, to, depth, from, stencil, at, width),
-        PackedDepth::D24S8 => pack_pixels::<D24S8>(packed, to, depth, from, stencil, at, width),
+        PackedDepth::D16 => pack_pixels::<D16>(packed, depth, stencil, row),
+        PackedDepth::D24X8 => pack_pixels::<D24X8>(packed, depth, stencil, row),
+        PackedDepth::D24S8 => pack_pixels::<D24S8>(packed, depth, stencil, row),
     }
 }

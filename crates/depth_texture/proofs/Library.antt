@@ -1,7 +1,6 @@
 -- What the library's methods and the code's tests give, in the words of specs/. Assumes nothing.
-use Rattle.std.specs.Prelude.{◌≡◌, false, ◌&&◌, ℕ, suc, ◌+◌, ◌-◌, ◌*◌, ◌/◌, ◌%◌, ◌≤◌, ◌<◌, leb, ltb}
-use Rattle.std.proofs.Common.{sym, ap, ap₂, ◌∙◌, inl, inr, arith, suc-mul, mul-le-mul_right, div-add-mod'}
-use borrow.Author.Tests.{le-leb, lt-leb}
+use Rattle.std.proofs.Common.{◌≡◌, false, ◌&&◌, ℕ, suc, ◌+◌, ◌-◌, ◌*◌, ◌/◌, ◌%◌, ◌≤◌, ◌<◌, leb, ltb, sym, ap, ap₂, ◌∙◌, inl, inr, arith, suc-mul, mul-le-mul_right, div-add-mod', le-leb}
+use borrow.Author.Tests.{lt-leb}
 use Rattle.words.specs.Multiples.{raised, Raised, raised_is}
 use Rattle.words.specs.Tests.{split, leb_same, and_out}
 use Rattle.formats.specs.Table.{bytes_of}

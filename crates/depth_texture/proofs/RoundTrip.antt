@@ -1,12 +1,9 @@
 -- What accepted calls leave in each pixel, from the law that pixels of one picture share no byte: unpacking leaves each pixel's own depth and stencil in
 -- the planes, packing leaves the nearest code and the stencil in each packed pixel, and packing what was unpacked puts back every pixel's bytes.
 -- Assumes nothing.
-use Rattle.std.specs.Prelude.{◌≡◌, Bool, T, eqb, pos, get_or, take, drop}
+use Rattle.std.proofs.Common.{◌≡◌, Bool, T, eqb, pos, get_or, take, drop, sym, ◌∙◌, arith, mod-eq_of_lt, add-zero, lit<, ne_eqb, get_or-take, get_or-drop, List, ℕ, ◌+◌, ◌*◌, ◌^◌, ◌≤◌, ◌<◌}
 use Rattle.std.proofs.Math.Path.{refl, ap, ap₂, subst}
-use Rattle.std.proofs.Common.{sym, ◌∙◌, arith, mod-eq_of_lt, add-zero, lit<, ne_eqb, get_or-take, get_or-drop}
 use Rattle.std.proofs.Math.Bool.{true, false}
-use mathlib.Core.List.{List}
-use Prim.Native.Nat.{ℕ, ◌+◌, ◌*◌, ◌^◌, ◌≤◌, ◌<◌}
 use Rattle.std.proofs.Math.ListN.{length, length-drop}
 use Rattle.std.proofs.Math.Seq.{length-take-le}
 use Rattle.std.specs.Float.Ieee.{binary32, of_bits, to_bits, of_int, fits}

@@ -1,14 +1,9 @@
 -- The refusals by their tests: which number each outcome of the tests gives, and what holds of a layout that stands and of a call that is accepted.
 -- Assumes nothing.
-use Rattle.std.specs.Prelude.{◌≡◌, Result, Ok, Err, Bool, not, ◌&&◌, ◌||◌, ltb, eqb}
-use Rattle.std.proofs.Math.Path.{refl, sym, ap, ap₂, subst}
-use Rattle.std.proofs.Common.{◌∙◌, mul_comm}
-use Rattle.std.proofs.Math.Bool.{true, false}
-use Prim.Native.Nat.{ℕ, ◌+◌, ◌-◌, ◌*◌, ◌≤◌, ◌<◌, max}
-use native.Mathlib.Omega.{arith}
-use Rattle.std.proofs.Math.Dec.{leb}
-use borrow.Author.Tests.{ltb-true, lt-ltb, le-leb, leb-true, eqb-false, eq-eqb, ne_eqb}
-use Rattle.words.specs.Tests.{pick, and_left, and_right}
+use Rattle.std.specs.Prelude.{◌≡◌, Result, Ok, Err, Bool, not, ◌&&◌, ◌||◌, ltb, eqb, refl, true, false, ℕ, suc, ◌+◌, ◌-◌, ◌*◌, ◌≤◌, ◌<◌, max, leb}
+use Rattle.std.proofs.Common.{sym, ap, ap₂, subst, ◌∙◌, mul_comm, arith, ltb-true, lt-ltb, le-leb, leb-true, eq-eqb, ne_eqb}
+use borrow.Author.Tests.{eqb-false}
+use Rattle.words.specs.Tests.{pick, and_left, and_right, and_out, leb_same}
 use Rattle.depth_texture.specs.declared.PlaneLayout.{PlaneLayout}
 use Rattle.formats.specs.Table.{bytes_of}
 use Rattle.words.specs.Multiples.{raised, Raised, raised_is}
@@ -84,6 +79,10 @@ not_standing l k = sym (go (stands l) refl)
     go true e = absurd (k (stands_holds l e))
     go false e = refl
 
+pub stands_is : (l : PlaneLayout) (b : Bool) → (b ≡ true → Stands l) → (b ≡ false → Stands l → ⊥) → b ≡ stands l
+stands_is l true h k = sym (stands_tested l (h refl))
+stands_is l false h k = not_standing l (k refl)
+
 -- ---- a layout that is asked for
 -- what `PlaneLayout::new` owes of its answer
 abbrev pub Answered : (width height alignment : ℕ) → Result PlaneLayout PlaneLayoutRefusal → Type 0
@@ -103,6 +102,10 @@ refused w h a r e p z = record {
   stands = λ q. absurd (omega arith);
   pitches = λ q. absurd (omega arith);
 }
+
+-- a number that is past 64 bits is not below their limit
+past : (n : ℕ) → leb n 18446744073709551615 ≡ false → ltb n limit ≡ false
+past n e = sym (leb_same n 18446744073709551615 (suc n) limit (λ h. omega arith) (λ h. omega arith)) ∙ e
 
 module _ (w h a : ℕ) where
   pub zero_width : w ≡ 0 → Answered w h a (Err ZeroSize)
@@ -131,6 +134,15 @@ module _ (w h a : ℕ) where
       pub over : planes_fit (layout w h d s) ≡ false → Answered w h a (Err Over64Bits)
       unfolding layout_refusal is_empty aligned
       over e = refused w h a (Err Over64Bits) (rw (ne_eqb w 0 wide, ne_eqb h 0 high, power, ap planes_fit is_aligned ∙ e) refl) (omega arith) refl
+
+      -- one plane that does not fit is enough
+      pub depth_over : leb (d * h) 18446744073709551615 ≡ false → Answered w h a (Err Over64Bits)
+      unfolding planes_fit
+      depth_over e = over (ap (λ t. t && ltb (s * h) limit) (past (d * h) e))
+
+      pub stencil_over : leb (d * h) 18446744073709551615 ≡ true → leb (s * h) 18446744073709551615 ≡ false → Answered w h a (Err Over64Bits)
+      unfolding planes_fit
+      stencil_over e f = over (and_out (ltb (d * h) limit) (ltb (s * h) limit) (past (s * h) f))
 
       pub made : planes_fit (layout w h d s) ≡ true → Answered w h a (Ok (layout w h d s))
       unfolding layout_refusal layout_for is_empty aligned planes_fit

@@ -113,6 +113,7 @@ impl PlaneLayout {
     }
 
     // Whether the layout stands: it has a pixel, its pitches hold their rows, and its planes fit 64 bits.
+    #[tactic(auto, using(crate::specs::Refusals::rows_stand, crate::specs::Refusals::not_standing))]
     fn is_sound(self) -> bool
         ensures { result ≡ stands self }
     {
@@ -124,6 +125,7 @@ impl PlaneLayout {
     }
 
     // Whether the packed pitch holds a row, and `len` bytes every row.
+    #[tactic(auto, using(depth_pixels::specs::PackedFormats::sizes, crate::proofs::Library::short_pitch, crate::proofs::Library::short_row, crate::proofs::Library::other_rows))]
     fn packed_holds(self, kind: PackedDepth, len: usize, pitch: usize) -> bool
         requires { Stands self }
         ensures { result ≡ packed_holds (format_code kind) self len pitch }
@@ -141,6 +143,7 @@ impl PlaneLayout {
     }
 
     // The tests of the layout and of the buffers' lengths, for a packed depth format.
+    #[tactic(auto, using(depth_pixels::specs::PackedFormats::packed_known, crate::specs::Refusals::refused_10, crate::specs::Refusals::refused_11, crate::specs::Refusals::refused_12, crate::specs::Refusals::refused_13, crate::specs::Refusals::not_refused))]
     fn check_buffers(
         self,
         kind: PackedDepth,

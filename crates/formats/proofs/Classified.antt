@@ -1,11 +1,10 @@
 -- What the class of a code is, from what the code was found to be.
 -- Assumes nothing.
-use Rattle.std.specs.Prelude.{◌≡◌, refl, Bool, true, false, ◌||◌, ◌∷◌, ℕ, Option, Some, None, eqb}
+use Rattle.std.proofs.Common.{◌≡◌, refl, Bool, true, false, ◌||◌, ◌∷◌, ℕ, Option, Some, None, eqb, sym, ap, ◌∙◌, ne_eqb}
 use Rattle.std.specs.Option.{is_some}
-use Rattle.std.proofs.Common.{sym, ap, ◌∙◌, ne_eqb}
 use Rattle.formats.specs.Codes.{A32B32G32R32F}
-use Rattle.formats.specs.Classes.{listed, code_sources, is_convertible_rgb, is_packed_yuv, is_planar_yuv, is_yuv, is_code_source, is_argb_source, is_lane_source}
-use Rattle.formats.specs.Formats.{Found, lane_source_code, packed_yuv_code, planar_yuv_code, yuv_code, lane_source_is, packed_yuv_is, packed_yuv_not_planar, planar_yuv_is}
+use Rattle.formats.specs.Classes.{listed, code_sources, is_convertible_rgb, is_planar_yuv, is_yuv, is_code_source, is_argb_source, is_lane_source}
+use Rattle.formats.specs.Formats.{Found, lane_source_code, packed_yuv_code, planar_yuv_code, yuv_code, lane_source_is, packed_yuv_is, planar_yuv_is}
 use Rattle.formats.specs.Listed.{lane_only, planar_not_packed}
 use Rattle.formats.specs.declared.LaneSource.{LaneSource}
 use Rattle.formats.specs.declared.YuvFormat.{YuvFormat}

@@ -84,6 +84,7 @@ pub const MAX_TEXTURE_DIM: u32 = 16384;
 // definition of their own.
 
 // Whether the converter decodes and encodes a format: its channels are unsigned and at most eight bits wide.
+#[tactic(auto, using(crate::specs::Formats::rgb_is))]
 pub fn is_convertible_rgb(d3d_format: u32) -> bool
     ensures { result ≡ is_convertible_rgb d3d_format }
 {
@@ -91,6 +92,7 @@ pub fn is_convertible_rgb(d3d_format: u32) -> bool
 }
 
 // Whether a format is one of the two packed 4:2:2 YUV formats.
+#[tactic(auto, using(crate::specs::Formats::packed_yuv_is))]
 pub fn is_packed_yuv(d3d_format: u32) -> bool
     ensures { result ≡ is_packed_yuv d3d_format }
 {
@@ -98,6 +100,7 @@ pub fn is_packed_yuv(d3d_format: u32) -> bool
 }
 
 // Whether a format is one of the two planar 4:2:0 YUV formats.
+#[tactic(auto, using(crate::specs::Formats::planar_yuv_is))]
 pub fn is_planar_yuv(d3d_format: u32) -> bool
     ensures { result ≡ is_planar_yuv d3d_format }
 {
@@ -105,6 +108,7 @@ pub fn is_planar_yuv(d3d_format: u32) -> bool
 }
 
 // Whether a format converts into A8R8G8B8 alone and its channels are whole numbers.
+#[tactic(auto, using(crate::specs::Formats::code_source_is))]
 pub fn is_code_source(d3d_format: u32) -> bool
     ensures { result ≡ is_code_source d3d_format }
 {
@@ -119,6 +123,7 @@ pub fn is_argb_source(d3d_format: u32) -> bool
 }
 
 // Whether a source's texels are words with lanes: it is an RGB format, or converts into A8R8G8B8 alone.
+#[tactic(auto, using(crate::specs::Formats::lane_source_is))]
 pub fn is_lane_source(d3d_format: u32) -> bool
     ensures { result ≡ is_lane_source d3d_format }
 {
@@ -134,6 +139,7 @@ const TEXEL_BYTES: [u8; 117] = [
 ];
 
 // The bytes of one texel; 0 for a code that has no lanes.
+#[tactic(auto, unfolding(crate::specs::Table::bytes_of, crate::specs::Table::parts_of))]
 pub fn bytes_per_texel(d3d_format: u32) -> usize
     ensures { result ≡ bytes_of d3d_format }
 {
@@ -174,6 +180,7 @@ pub enum RgbFormat {
 
 impl RgbFormat {
     // The format that has this code.
+    #[tactic(auto, unfolding(crate::specs::Classes::is_convertible_rgb))]
     pub fn from_d3d(d3d_format: u32) -> Option<RgbFormat>
         ensures { Found rgb_code is_convertible_rgb d3d_format result }
     {
@@ -195,6 +202,7 @@ impl RgbFormat {
     }
 
     // The bytes of one texel.
+    #[tactic(auto, unfolding(crate::specs::Table::bytes_of, crate::specs::Table::parts_of))]
     pub fn bytes_per_texel(self) -> usize
         ensures { result ≡ bytes_of (rgb_code self) }
     {
@@ -229,6 +237,7 @@ pub enum CodeSource {
 
 impl CodeSource {
     // The format that has this code.
+    #[tactic(auto, unfolding(crate::specs::Classes::is_code_source))]
     pub fn from_d3d(d3d_format: u32) -> Option<CodeSource>
         ensures { Found code_source_code is_code_source d3d_format result }
     {
@@ -245,6 +254,7 @@ impl CodeSource {
     }
 
     // The bytes of one texel.
+    #[tactic(auto, unfolding(crate::specs::Table::bytes_of, crate::specs::Table::parts_of))]
     pub fn bytes_per_texel(self) -> usize
         ensures { result ≡ bytes_of (code_source_code self) }
     {
@@ -271,6 +281,7 @@ pub enum LaneSource {
 
 impl LaneSource {
     // The format that has this code.
+    #[tactic(auto, using(crate::proofs::Classified::no_lanes))]
     pub fn from_d3d(d3d_format: u32) -> Option<LaneSource>
         ensures { Found lane_source_code is_lane_source d3d_format result }
     {
@@ -288,6 +299,7 @@ impl LaneSource {
     }
 
     // The bytes of one texel.
+    #[tactic(auto, unfolding(crate::specs::Table::bytes_of, crate::specs::Table::parts_of))]
     pub fn bytes_per_texel(self) -> usize
         ensures { result ≡ bytes_of (lane_source_code self) }
     {
@@ -322,6 +334,7 @@ pub enum YuvFormat {
 
 impl PackedYuv {
     // The format that has this code.
+    #[tactic(auto, unfolding(crate::specs::Classes::is_packed_yuv))]
     pub fn from_d3d(d3d_format: u32) -> Option<PackedYuv>
         ensures { Found packed_yuv_code is_packed_yuv d3d_format result }
     {
@@ -335,6 +348,7 @@ impl PackedYuv {
 
 impl PlanarYuv {
     // The format that has this code.
+    #[tactic(auto, unfolding(crate::specs::Classes::is_planar_yuv))]
     pub fn from_d3d(d3d_format: u32) -> Option<PlanarYuv>
         ensures { Found planar_yuv_code is_planar_yuv d3d_format result }
     {
@@ -348,6 +362,7 @@ impl PlanarYuv {
 
 impl YuvFormat {
     // Whether it is a planar one.
+    #[tactic(auto, using(crate::specs::Formats::packed_yuv_not_planar, crate::specs::Formats::planar_yuv_is))]
     pub fn is_planar(self) -> bool
         ensures { result ≡ is_planar_yuv (yuv_code self) }
     {
@@ -390,6 +405,7 @@ impl SourceFormat {
     }
 
     // Whether it is a YUV format.
+    #[tactic(auto, using(crate::proofs::Classified::lanes_no_yuv, crate::proofs::Classified::yuv_is))]
     pub fn is_yuv(self) -> bool
         ensures { result ≡ is_yuv (source_code self) }
     {
@@ -397,6 +413,7 @@ impl SourceFormat {
     }
 
     // Whether it is a planar YUV format.
+    #[tactic(auto, using(crate::proofs::Classified::lanes_no_planar))]
     pub fn is_planar(self) -> bool
         ensures { result ≡ is_planar_yuv (source_code self) }
     {
@@ -407,6 +424,7 @@ impl SourceFormat {
     }
 
     // The bytes of one texel; 0 for YUV, which has no texels of whole bytes of their own.
+    #[tactic(auto, using(crate::specs::Formats::yuv_no_bytes))]
     pub fn bytes_per_texel(self) -> usize
         ensures { result ≡ bytes_of (source_code self) }
     {

@@ -4,101 +4,76 @@
 // `yuv_rows`, rows of all other sources in `block_rows`. Ported from pixel_convert.rs of athei/mtld3d (an altered version, see NOTICE).
 #![tactic(auto)]
 
-ghost use Rattle.std.specs.Prelude.{◌≡◌, false, ℕ, ◌≤◌, ◌<◌, length};
-ghost use Rattle.formats.specs.Table.{bytes_of};
+ghost use Rattle.std.specs.Prelude.{◌≡◌, ℕ, ◌≤◌, ◌<◌, length};
 ghost use Rattle.formats.specs.Formats.{rgb_code, source_code};
-ghost use Rattle.convert_reply.specs.Replies.{illegal_set, reply_with, convert_reply};
+ghost use Rattle.convert_reply.specs.Replies.{reply_with, convert_reply};
 ghost use Rattle.regions.specs.Regions.{row_written, slice_written, region_written, converted_with, converted_bytes, NearWith, NearSource, OwnWith, OthersKept};
 ghost use Rattle.regions.specs.Rows.{RowFits};
 
-use convert_reply::{ConvertRefusal, ConvertRegion, Pair};
+use block_rows::{LaneTexels, RgbTexels};
+use convert_reply::{Conversion, ConvertRefusal, ConvertRegion, RegionRow, YuvSource};
 use formats::SourceFormat;
-use yuv_sets::YuvSet;
+use yuv_sets::{LegalSet, YuvSet};
 
 // A row of any source; only a row of YUV uses the set.
 fn convert_row(
-    numbers: YuvSet,
-    block: &mut [u32],
+    block: &mut [u32; 64],
     dst: &mut [u8],
-    to_size: usize,
     src: &[u8],
-    from_size: usize,
-    pair: Pair,
-    region: ConvertRegion,
-    z: usize,
-    row: usize,
+    conversion: Conversion,
+    at: RegionRow,
 )
-    requires { (RowFits (length src.now) (length dst.old) (source_code pair.source) (rgb_code pair.target) region z row) × (from_size ≡ bytes_of (source_code pair.source)) × (to_size ≡ bytes_of (rgb_code pair.target)) × (64 ≤ length block.old) × (illegal_set (source_code pair.source) numbers ≡ false) }
-    ensures { dst.new ≡ row_written numbers src.now (source_code pair.source) (rgb_code pair.target) region z row dst.old }
+    requires { RowFits (length src.now) (length dst.old) (source_code conversion.pair.source) (rgb_code conversion.pair.target) at.region at.z at.row }
+    ensures { dst.new ≡ row_written conversion.numbers src.now (source_code conversion.pair.source) (rgb_code conversion.pair.target) at.region at.z at.row dst.old }
 {
-    match pair.source {
-        SourceFormat::Lanes(lanes) => block_rows::block_row(
-            block,
-            dst,
-            pair.target,
-            to_size,
-            src,
-            lanes,
-            from_size,
-            region,
-            z,
-            row,
-        ),
-        SourceFormat::Yuv(yuv) => yuv_rows::texel_row(
-            numbers,
-            dst,
-            pair.target,
-            to_size,
-            src,
-            yuv,
-            region,
-            z,
-            row,
-        ),
+    let format = conversion.pair.target;
+    match conversion.pair.source {
+        SourceFormat::Lanes(lanes) => {
+            let target = RgbTexels {
+                format,
+                size: conversion.to_size,
+            };
+            let source = LaneTexels {
+                format: lanes,
+                size: conversion.from_size,
+            };
+            block_rows::block_row(&mut block[..], dst, target, src, source, at);
+        }
+        SourceFormat::Yuv(yuv) => {
+            let set = LegalSet {
+                numbers: conversion.numbers,
+            };
+            yuv_rows::texel_row(dst, format, src, YuvSource { format: yuv, set }, at);
+        }
     }
 }
 
+// The rows of a slice.
 fn convert_slice(
-    numbers: YuvSet,
-    block: &mut [u32],
+    block: &mut [u32; 64],
     dst: &mut [u8],
-    to_size: usize,
     src: &[u8],
-    from_size: usize,
-    pair: Pair,
+    conversion: Conversion,
     region: ConvertRegion,
     z: usize,
 )
-    requires { ((row : ℕ) → row < region.height → RowFits (length src.now) (length dst.old) (source_code pair.source) (rgb_code pair.target) region z row) × (from_size ≡ bytes_of (source_code pair.source)) × (to_size ≡ bytes_of (rgb_code pair.target)) × (64 ≤ length block.old) × (illegal_set (source_code pair.source) numbers ≡ false) }
-    ensures { dst.new ≡ slice_written numbers src.now (source_code pair.source) (rgb_code pair.target) region z dst.old }
+    requires { (row : ℕ) → row < region.height → RowFits (length src.now) (length dst.old) (source_code conversion.pair.source) (rgb_code conversion.pair.target) region z row }
+    ensures { dst.new ≡ slice_written conversion.numbers src.now (source_code conversion.pair.source) (rgb_code conversion.pair.target) region z dst.old }
 {
     for row in 0..region.height as usize {
-        convert_row(
-            numbers, block, dst, to_size, src, from_size, pair, region, z, row,
-        );
+        let at = RegionRow { region, z, row };
+        convert_row(block, dst, src, conversion, at);
     }
 }
 
-// Every slice. What does not change from row to row is made here: the block, and how many bytes a texel has.
-fn convert_slices(numbers: YuvSet, dst: &mut [u8], src: &[u8], pair: Pair, region: ConvertRegion)
-    requires { ((z : ℕ) → z < region.depth → (row : ℕ) → row < region.height → RowFits (length src.now) (length dst.old) (source_code pair.source) (rgb_code pair.target) region z row) × (illegal_set (source_code pair.source) numbers ≡ false) }
-    ensures { dst.new ≡ region_written numbers src.now (source_code pair.source) (rgb_code pair.target) region dst.old }
+// Every slice, by one block.
+fn convert_slices(dst: &mut [u8], src: &[u8], conversion: Conversion, region: ConvertRegion)
+    requires { (z : ℕ) → z < region.depth → (row : ℕ) → row < region.height → RowFits (length src.now) (length dst.old) (source_code conversion.pair.source) (rgb_code conversion.pair.target) region z row }
+    ensures { dst.new ≡ region_written conversion.numbers src.now (source_code conversion.pair.source) (rgb_code conversion.pair.target) region dst.old }
 {
-    let to_size = pair.target.bytes_per_texel();
-    let from_size = pair.source.bytes_per_texel();
     let mut block = [0u32; 64];
     for z in 0..region.depth {
-        convert_slice(
-            numbers,
-            &mut block[..],
-            dst,
-            to_size,
-            src,
-            from_size,
-            pair,
-            region,
-            z,
-        );
+        convert_slice(&mut block, dst, src, conversion, region, z);
     }
 }
 
@@ -120,7 +95,7 @@ pub fn convert_region_with_set(
     ensures own { OwnWith numbers src.now dst.old dst.new src_format dst_format region }
     ensures kept { OthersKept dst.old dst.new dst_format region }
 {
-    let pair = convert_reply::check(
+    let conversion = convert_reply::check(
         src.len(),
         src_format,
         dst.len(),
@@ -129,7 +104,7 @@ pub fn convert_region_with_set(
         numbers,
     )?;
     if !convert_reply::is_empty(region) {
-        convert_slices(numbers, dst, src, pair, region);
+        convert_slices(dst, src, conversion, region);
     }
     Ok(())
 }

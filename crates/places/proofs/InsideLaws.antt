@@ -1,10 +1,7 @@
 -- A region lies inside where its last texel does. Assumes nothing.
-use Rattle.std.specs.Prelude.{◌≡◌, Bool}
+use Rattle.std.proofs.Common.{◌≡◌, Bool, ◌∙◌, ℕ, ◌+◌, ◌-◌, ◌≤◌, ◌<◌, arith}
 use Rattle.std.proofs.Math.Path.{refl, sym}
-use Rattle.std.proofs.Common.{◌∙◌}
 use Rattle.std.proofs.Math.Bool.{true, false}
-use Prim.Native.Nat.{ℕ, ◌+◌, ◌-◌, ◌≤◌, ◌<◌}
-use native.Mathlib.Omega.{arith}
 use Rattle.words.specs.Iterate.{all, all_true, all_at, all_false}
 use Rattle.places.specs.Places.{places_at, places_in, texel_in, inside_all}
 use Rattle.places.specs.Inside.{texel_out_x, texel_out_y, texel_in_lem, texel_lower}

@@ -2,3 +2,4 @@
 pub mod InsideLaws
 pub mod Texel
 pub mod Laid
+pub mod ByKind

@@ -1,16 +1,10 @@
 -- Every offset of a texel is at most that of one further on; so a region lies inside where its last texel does, as proofs/InsideLaws says.
 -- Assumes nothing.
-use Rattle.std.specs.Prelude.{◌≡◌, Bool, ◌&&◌, ◌||◌, leb, ltb, eqb, length, get_or, take, drop}
-use Rattle.std.proofs.Math.Path.{refl, sym}
-use Rattle.std.proofs.Common.{ap, ◌∙◌, not-suc-le-zero, drop-cons}
-use Rattle.std.proofs.Math.Bool.{true, false}
+use Rattle.std.specs.Prelude.{◌≡◌, Bool, ◌&&◌, ◌||◌, leb, ltb, eqb, length, get_or, take, drop, refl, true, false, List, [], ◌∷◌, ℕ, zero, suc, ◌+◌, ◌*◌, ◌/◌, ◌≤◌, ◌<◌}
+use Rattle.std.proofs.Common.{sym, ap, ◌∙◌, not-suc-le-zero, drop-cons, arith, mul-le-mul_right, leb-true, le-leb, ltb-true, ltb-false, lt-ltb}
 use Rattle.std.proofs.lemmas.Bool.{false≢true}
-use mathlib.Core.List.{List, [], ◌∷◌}
-use Prim.Native.Nat.{ℕ, zero, suc, ◌+◌, ◌/◌, ◌≤◌, ◌<◌}
-use native.Mathlib.Omega.{arith}
-use Rattle.std.proofs.Math.Nat.{mul-le-mul_right}
-use borrow.Author.Tests.{leb-true, le-leb, lt-leb, ltb-true, ltb-false, lt-ltb}
-use Rattle.words.specs.Tests.{pick, and_left, and_right, and_out}
+use borrow.Author.Tests.{lt-leb}
+use Rattle.words.specs.Tests.{pick, and_left, and_right, and_out, leb_same}
 use Rattle.formats.specs.Codes.{YV12}
 use Rattle.formats.specs.Table.{bytes_of}
 use Rattle.formats.specs.Classes.{is_packed_yuv, is_planar_yuv, is_lane_source}
@@ -224,3 +218,14 @@ module _ (len f pitch slice_pitch z y x : ℕ) (h : places_in len (places_at f p
   packed_ends p q =
       leb-true _ len
       (sym (run_in len (texel_start pitch slice_pitch 4 z y (x / 2)) 4 (omega arith)) ∙ sym (ap (places_in len) (packed_places_lem f pitch slice_pitch z y x p q)) ∙ h)
+
+-- ---- a texel that ends within len, and one that does not
+pub ends_out : (len pitch slice_pitch size z y x : ℕ) → len < z * slice_pitch + y * pitch + x * size + size → false ≡ leb (texel_start pitch slice_pitch size z y x + size) len
+unfolding texel_start
+ends_out len pitch slice_pitch size z y x h = sym (lt-leb (z * slice_pitch + y * pitch + x * size + size) len h)
+
+pub ends_left : (len pitch slice_pitch size z y x a b c : ℕ) → z * slice_pitch + a ≡ len → y * pitch + b ≡ a → x * size + c ≡ b
+    → leb size c ≡ leb (texel_start pitch slice_pitch size z y x + size) len
+unfolding texel_start
+ends_left len pitch slice_pitch size z y x a b c p q r =
+    leb_same size c (z * slice_pitch + y * pitch + x * size + size) len (λ h. omega arith) (λ h. omega arith)

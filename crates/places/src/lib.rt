@@ -6,68 +6,89 @@
 ghost use Rattle.std.specs.Prelude.{◌≡◌, true, ◌+◌, ◌^◌, ◌<◌, ◌/◌, leb, SomeIff};
 ghost use Rattle.formats.specs.Formats.{planar_yuv_code, yuv_code, source_code};
 ghost use Rattle.planar_yuv.specs.Offsets.{u_offset_at, v_offset_at};
-ghost use Rattle.planar_yuv.specs.Answers.{reply_of, layout_of, from_pitch, Legal, TexelOf};
+ghost use Rattle.planar_yuv.specs.Answers.{reply_of, layout_of, from_pitch, Legal};
 ghost use Rattle.places.specs.Places.{texel_start, layout_places, planar_places, places_at, places_in, inside_all};
 ghost use Rattle.places.specs.Planar.{LayoutFor};
 
 use formats::{PlanarYuv, SourceFormat, YuvFormat};
-use planar_yuv::{NoPlanarLayout, PlanarYuvLayout};
+use planar_yuv::{NoPlanarLayout, PlanarTexel, PlanarYuvLayout};
 
-// Where a texel of size bytes at slice z, row y and column x ends, if that is a number of 64 bits.
-#[tactic(auto, unfolding(crate::specs::Places::texel_start))]
-fn end_of(
-    pitch: usize,
-    slice_pitch: usize,
-    size: usize,
-    z: usize,
-    y: usize,
-    x: usize,
-) -> Option<usize>
-    ensures { SomeIff result (texel_start pitch slice_pitch size z y x + size < 2 ^ 64) (texel_start pitch slice_pitch size z y x + size) }
-{
-    let slice = z.checked_mul(slice_pitch)?;
-    let row = y.checked_mul(pitch)?;
-    let column = x.checked_mul(size)?;
-    slice
-        .checked_add(row)?
-        .checked_add(column)?
-        .checked_add(size)
+// Bytes from a row to the next, and from a slice to the next.
+#[derive(Clone, Copy)]
+pub struct Pitches {
+    pub row: usize,
+    pub slice: usize,
 }
 
-// Whether it ends within len bytes.
-fn ends_in(
-    len: usize,
-    pitch: usize,
-    slice_pitch: usize,
-    size: usize,
-    z: usize,
-    y: usize,
-    x: usize,
-) -> bool
-    ensures { result ≡ leb (texel_start pitch slice_pitch size z y x + size) len }
-{
-    end_of(pitch, slice_pitch, size, z, y, x).is_some_and(|end| end <= len)
+// The slice, row and column of a texel.
+#[derive(Clone, Copy)]
+pub struct Spot {
+    pub z: usize,
+    pub y: usize,
+    pub x: usize,
 }
 
-#[tactic(auto, using(planar_yuv::proofs::ByFormat::u_yv12, planar_yuv::proofs::ByFormat::u_nv12))]
-pub fn u_offset(format: PlanarYuv, layout: PlanarYuvLayout, x: usize, y: usize) -> usize
-    requires { TexelOf layout x y }
-    ensures { result ≡ u_offset_at (planar_yuv_code format) layout.pitch layout.luma_rows x y }
-{
-    match format {
-        PlanarYuv::YV12 => layout.yv12_u_offset(x, y),
-        PlanarYuv::NV12 => layout.nv12_uv_offset(x, y),
+// A box of texels, from slice 0 on.
+#[derive(Clone, Copy)]
+pub struct Part {
+    pub x: u32,
+    pub y: u32,
+    pub width: u32,
+    pub height: u32,
+    pub depth: usize,
+}
+
+impl Pitches {
+    // Where a texel of size bytes ends, if that is a number of 64 bits.
+    #[tactic(auto, unfolding(crate::specs::Places::texel_start))]
+    fn end_of(self, size: usize, at: Spot) -> Option<usize>
+        ensures { SomeIff result (texel_start self.row self.slice size at.z at.y at.x + size < 2 ^ 64) (texel_start self.row self.slice size at.z at.y at.x + size) }
+    {
+        let slice = at.z.checked_mul(self.slice)?;
+        let row = at.y.checked_mul(self.row)?;
+        let column = at.x.checked_mul(size)?;
+        slice
+            .checked_add(row)?
+            .checked_add(column)?
+            .checked_add(size)
+    }
+
+    // Whether it ends within len bytes.
+    fn ends_in(self, len: usize, size: usize, at: Spot) -> bool
+        ensures { result ≡ leb (texel_start self.row self.slice size at.z at.y at.x + size) len }
+    {
+        self.end_of(size, at).is_some_and(|end| end <= len)
+    }
+
+    // Where it starts, which is a number of 64 bits for every texel that lies in a buffer.
+    #[tactic(auto, unfolding(crate::specs::Places::texel_start))]
+    pub fn start_of(self, size: usize, at: Spot) -> usize
+        requires { texel_start self.row self.slice size at.z at.y at.x < 2 ^ 64 }
+        ensures { result ≡ texel_start self.row self.slice size at.z at.y at.x }
+    {
+        at.z * self.slice + at.y * self.row + at.x * size
     }
 }
 
-#[tactic(auto, using(planar_yuv::proofs::ByFormat::v_yv12, planar_yuv::proofs::ByFormat::v_nv12, crate::specs::Planar::nv12_small))]
-pub fn v_offset(format: PlanarYuv, layout: PlanarYuvLayout, x: usize, y: usize) -> usize
-    requires { TexelOf layout x y }
-    ensures { result ≡ v_offset_at (planar_yuv_code format) layout.pitch layout.luma_rows x y }
+// The U byte of a planar texel.
+#[tactic(auto, using(planar_yuv::proofs::ByFormat::u_yv12, planar_yuv::proofs::ByFormat::u_nv12))]
+pub fn u_offset(format: PlanarYuv, texel: PlanarTexel) -> usize
+    ensures { result ≡ u_offset_at (planar_yuv_code format) texel.layout.pitch texel.layout.luma_rows texel.x texel.y }
 {
     match format {
-        PlanarYuv::YV12 => layout.yv12_v_offset(x, y),
-        PlanarYuv::NV12 => layout.nv12_uv_offset(x, y) + 1,
+        PlanarYuv::YV12 => texel.yv12_u_offset(),
+        PlanarYuv::NV12 => texel.nv12_uv_offset(),
+    }
+}
+
+// Its V byte.
+#[tactic(auto, using(planar_yuv::proofs::ByFormat::v_yv12, planar_yuv::proofs::ByFormat::v_nv12, crate::specs::Planar::nv12_small))]
+pub fn v_offset(format: PlanarYuv, texel: PlanarTexel) -> usize
+    ensures { result ≡ v_offset_at (planar_yuv_code format) texel.layout.pitch texel.layout.luma_rows texel.x texel.y }
+{
+    match format {
+        PlanarYuv::YV12 => texel.yv12_v_offset(),
+        PlanarYuv::NV12 => texel.nv12_uv_offset() + 1,
     }
 }
 
@@ -77,122 +98,81 @@ fn layout_has(len: usize, format: PlanarYuv, layout: PlanarYuvLayout, y: usize, 
     requires { Legal layout }
     ensures { result ≡ places_in len (layout_places (planar_yuv_code format) layout.pitch layout.luma_rows y x) }
 {
-    layout.contains(x, y)
-        && layout.luma_offset(x, y) < len
-        && u_offset(format, layout, x, y) < len
-        && v_offset(format, layout, x, y) < len
+    if !layout.contains(x, y) {
+        return false;
+    }
+    let texel = PlanarTexel { layout, x, y };
+    texel.luma_offset() < len && u_offset(format, texel) < len && v_offset(format, texel) < len
 }
 
 // The layout of a planar picture, which has as many luma rows as its slice has rows.
 #[tactic(auto, using(planar_yuv::proofs::Refused::no_pitch))]
-fn layout_in_slice(
-    format: PlanarYuv,
-    pitch: usize,
-    slice_pitch: usize,
-) -> Result<PlanarYuvLayout, NoPlanarLayout>
-    ensures { reply_of result ≡ from_pitch (planar_yuv_code format) pitch (slice_pitch / pitch) }
+fn layout_in_slice(format: PlanarYuv, pitches: Pitches) -> Result<PlanarYuvLayout, NoPlanarLayout>
+    ensures { reply_of result ≡ from_pitch (planar_yuv_code format) pitches.row (pitches.slice / pitches.row) }
 {
-    let Some(luma_rows) = slice_pitch.checked_div(pitch) else {
+    let Some(luma_rows) = pitches.slice.checked_div(pitches.row) else {
         return Err(NoPlanarLayout);
     };
-    planar_yuv::layout_from_pitch(format, pitch, luma_rows)
+    planar_yuv::layout_from_pitch(format, pitches.row, luma_rows)
 }
 
+// Whether the bytes of texel (x, y) of a planar picture lie within len.
 #[tactic(auto, using(crate::proofs::Laid::laid_in))]
-fn planar_has(
-    len: usize,
-    format: PlanarYuv,
-    pitch: usize,
-    slice_pitch: usize,
-    y: usize,
-    x: usize,
-) -> bool
-    ensures { result ≡ places_in len (planar_places (planar_yuv_code format) pitch (slice_pitch / pitch) y x) }
+fn planar_has(len: usize, format: PlanarYuv, pitches: Pitches, y: usize, x: usize) -> bool
+    ensures { result ≡ places_in len (planar_places (planar_yuv_code format) pitches.row (pitches.slice / pitches.row) y x) }
 {
-    match layout_in_slice(format, pitch, slice_pitch) {
+    match layout_in_slice(format, pitches) {
         Ok(layout) => layout_has(len, format, layout, y, x),
         Err(NoPlanarLayout) => false,
     }
 }
 
-// Whether the bytes of the YUV texel at slice z, row y and column x lie within len.
-fn yuv_places_in(
-    len: usize,
-    format: YuvFormat,
-    pitch: usize,
-    slice_pitch: usize,
-    z: usize,
-    y: usize,
-    x: usize,
-) -> bool
-    ensures { result ≡ places_in len (places_at (yuv_code format) pitch slice_pitch z y x) }
+// Whether the bytes of a YUV texel lie within len.
+#[tactic(auto, using(crate::proofs::ByKind::packed_in, crate::proofs::ByKind::planar_in))]
+fn yuv_places_in(len: usize, format: YuvFormat, pitches: Pitches, at: Spot) -> bool
+    ensures { result ≡ places_in len (places_at (yuv_code format) pitches.row pitches.slice at.z at.y at.x) }
 {
     match format {
-        YuvFormat::Packed(_) => ends_in(len, pitch, slice_pitch, 4, z, y, x / 2),
-        YuvFormat::Planar(planar) => planar_has(len, planar, pitch, slice_pitch, y, x),
+        YuvFormat::Packed(_) => pitches.ends_in(len, 4, Spot { x: at.x / 2, ..at }),
+        YuvFormat::Planar(planar) => planar_has(len, planar, pitches, at.y, at.x),
     }
 }
 
 // The same of any texel.
-fn places_in(
-    len: usize,
-    format: SourceFormat,
-    pitch: usize,
-    slice_pitch: usize,
-    z: usize,
-    y: usize,
-    x: usize,
-) -> bool
-    ensures { result ≡ places_in len (places_at (source_code format) pitch slice_pitch z y x) }
+#[tactic(auto, using(crate::proofs::ByKind::lanes_in))]
+fn places_in(len: usize, format: SourceFormat, pitches: Pitches, at: Spot) -> bool
+    ensures { result ≡ places_in len (places_at (source_code format) pitches.row pitches.slice at.z at.y at.x) }
 {
     match format {
-        SourceFormat::Lanes(lanes) => ends_in(
-            len,
-            pitch,
-            slice_pitch,
-            lanes.bytes_per_texel(),
-            z,
-            y,
-            x,
-        ),
-        SourceFormat::Yuv(yuv) => yuv_places_in(len, yuv, pitch, slice_pitch, z, y, x),
+        SourceFormat::Lanes(lanes) => pitches.ends_in(len, lanes.bytes_per_texel(), at),
+        SourceFormat::Yuv(yuv) => yuv_places_in(len, yuv, pitches, at),
     }
 }
 
-// Whether every texel of a region that is not empty lies within len bytes, at columns and rows below 2^32: its last one decides.
+// Whether every texel of a part that is not empty lies within len bytes, at columns and rows below 2^32: its last one decides.
 #[tactic(auto, using(crate::proofs::InsideLaws::outside_x, crate::proofs::InsideLaws::outside_y, crate::proofs::InsideLaws::inside_by))]
-pub fn inside(
-    len: usize,
-    format: SourceFormat,
-    pitch: usize,
-    slice_pitch: usize,
-    x0: u32,
-    y0: u32,
-    width: u32,
-    height: u32,
-    depth: usize,
-) -> bool
-    requires { (0 < width) × (0 < height) × (0 < depth) }
-    ensures { result ≡ inside_all len (source_code format) pitch slice_pitch x0 y0 width height depth }
+pub fn inside(len: usize, format: SourceFormat, pitches: Pitches, part: Part) -> bool
+    requires { (0 < part.width) × (0 < part.height) × (0 < part.depth) }
+    ensures { result ≡ inside_all len (source_code format) pitches.row pitches.slice part.x part.y part.width part.height part.depth }
 {
-    let (Some(x), Some(y)) = (x0.checked_add(width - 1), y0.checked_add(height - 1)) else {
+    let (Some(x), Some(y)) = (
+        part.x.checked_add(part.width - 1),
+        part.y.checked_add(part.height - 1),
+    ) else {
         return false;
     };
-    places_in(
-        len,
-        format,
-        pitch,
-        slice_pitch,
-        depth - 1,
-        y as usize,
-        x as usize,
-    )
+    let last = Spot {
+        z: part.depth - 1,
+        y: y as usize,
+        x: x as usize,
+    };
+    places_in(len, format, pitches, last)
 }
 
 // The layout of a YUV source: zeros where it has none.
-pub fn source_layout(format: YuvFormat, pitch: usize, slice_pitch: usize) -> PlanarYuvLayout
-    ensures is { result ≡ layout_of (from_pitch (yuv_code format) pitch (slice_pitch / pitch)) }
-    ensures places { LayoutFor (yuv_code format) pitch (slice_pitch / pitch) result }
+pub fn source_layout(format: YuvFormat, pitches: Pitches) -> PlanarYuvLayout
+    ensures is { result ≡ layout_of (from_pitch (yuv_code format) pitches.row (pitches.slice / pitches.row)) }
+    ensures places { LayoutFor (yuv_code format) pitches.row (pitches.slice / pitches.row) result }
 {
     let none = PlanarYuvLayout {
         pitch: 0,
@@ -202,6 +182,6 @@ pub fn source_layout(format: YuvFormat, pitch: usize, slice_pitch: usize) -> Pla
     };
     match format {
         YuvFormat::Packed(_) => none,
-        YuvFormat::Planar(planar) => layout_in_slice(planar, pitch, slice_pitch).unwrap_or(none),
+        YuvFormat::Planar(planar) => layout_in_slice(planar, pitches).unwrap_or(none),
     }
 }

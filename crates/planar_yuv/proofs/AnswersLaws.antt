@@ -1,6 +1,5 @@
 -- Laws on what specs/Answers.antt defines, which rest on laws there. Assumes nothing.
-use Rattle.std.specs.Prelude.{◌≡◌, ℕ, Result, Ok, Err}
-use Rattle.std.proofs.Common.{arith}
+use Rattle.std.proofs.Common.{◌≡◌, ℕ, Result, Ok, Err, arith}
 use Rattle.planar_yuv.specs.declared.NoPlanarLayout.{NoPlanarLayout}
 use Rattle.planar_yuv.specs.declared.PlanarYuvLayout.{PlanarYuvLayout}
 use Rattle.planar_yuv.proofs.ApartLaws.{planes}

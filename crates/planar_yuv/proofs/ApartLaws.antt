@@ -1,7 +1,5 @@
 -- The samples of a planar frame lie inside it, and no byte serves two of them. Assumes nothing.
-use Rattle.std.specs.Prelude.{◌≡◌, Bool, true, false, ℕ, ◌+◌, ◌*◌, ◌/◌, ◌%◌, ◌<◌, eqb}
-use Rattle.std.proofs.Common.{sym, ap, ap₂, ◌∙◌, mul_comm, mul_assoc, mul-add}
-use native.Mathlib.Omega.{arith}
+use Rattle.std.proofs.Common.{◌≡◌, Bool, true, false, ℕ, ◌+◌, ◌*◌, ◌/◌, ◌%◌, ◌<◌, eqb, sym, ap, ap₂, ◌∙◌, mul_comm, mul_assoc, mul-add, arith}
 use Rattle.std.proofs.Math.Arith.{digits_lt, digits_div, digits_mod}
 use Rattle.words.specs.Tests.{pick}
 use Rattle.formats.specs.Codes.{YV12}

@@ -1,7 +1,5 @@
 -- An offset of a texel is a sum of products of numbers of at most 16384, so that it fits. Assumes nothing.
-use Prim.Native.Nat.{ℕ, ◌*◌, ◌/◌, ◌≤◌}
-use native.Mathlib.Omega.{arith}
-use native.Mathlib.Nat.{mul-le-mul}
+use Rattle.std.proofs.Common.{ℕ, ◌*◌, ◌/◌, ◌≤◌, arith, mul-le-mul}
 use Rattle.planar_yuv.specs.declared.PlanarYuvLayout.{PlanarYuvLayout}
 use Rattle.planar_yuv.specs.Answers.{TexelOf}
 

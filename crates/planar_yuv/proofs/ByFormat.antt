@@ -1,6 +1,5 @@
 -- Where U and V stand, by the format. Assumes nothing.
-use Rattle.std.specs.Prelude.{◌≡◌, refl, ℕ, ◌+◌}
-use Rattle.std.proofs.Common.{eq-eqb, ne_eqb}
+use Rattle.std.proofs.Common.{◌≡◌, refl, ℕ, ◌+◌, eq-eqb, ne_eqb}
 use Rattle.formats.specs.Codes.{YV12}
 use Rattle.planar_yuv.specs.Offsets.{u_offset_at, v_offset_at, nv12_u, nv12_v, yv12_u, yv12_v}
 

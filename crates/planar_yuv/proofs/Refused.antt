@@ -1,7 +1,6 @@
 -- Which pitches and luma rows have no layout, and which have one. Assumes nothing.
-use Rattle.std.specs.Prelude.{◌≡◌, refl, false, ℕ, ◌+◌, ◌/◌, ◌%◌, ◌*◌, ◌≤◌, ◌<◌}
+use Rattle.std.proofs.Common.{◌≡◌, refl, false, ℕ, ◌+◌, ◌/◌, ◌%◌, ◌*◌, ◌≤◌, ◌<◌, sym, ◌∙◌, arith}
 use Rattle.std.specs.Int.{div_ceil}
-use Rattle.std.proofs.Common.{sym, ◌∙◌, arith}
 use Rattle.std.proofs.lemmas.Bool.{false≢true}
 use Rattle.formats.specs.Codes.{NV12, YV12}
 use Rattle.formats.specs.Classes.{is_planar_yuv}

@@ -139,6 +139,11 @@ pub by_nv12 : (f pitch rows : ℕ) → is_planar_yuv f ≡ true → (f ≡ YV12 
 unfolding from_pitch allowed is_planar_yuv
 by_nv12 f pitch rows p h = ap (λ t. pick t (layout_reply pitch rows) refusal) (rw (p, even_yes f rows h) refl)
 
+-- even rows of YV12
+pub yv12_even : (pitch rows : ℕ) → rows % 2 ≡ 0 → from_pitch NV12 pitch rows ≡ from_pitch YV12 pitch rows
+unfolding is_planar_yuv
+yv12_even pitch rows h = by_nv12 YV12 pitch rows refl (λ e. h)
+
 -- ---- from a width
 pub of_width : (f width height : ℕ) → 1 ≤ width → width ≤ max_texture_dim → from_width f width height ≡ from_pitch f (linear_row_pitch width) height
 unfolding from_width

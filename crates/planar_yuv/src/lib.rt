@@ -7,12 +7,16 @@
 ghost use Rattle.std.specs.Prelude.{◌≡◌, ◌+◌};
 ghost use Rattle.formats.specs.Codes.{NV12};
 ghost use Rattle.formats.specs.Formats.{planar_yuv_code};
-ghost use Rattle.planar_yuv.specs.Offsets.{contains, luma_offset_at, nv12_u, yv12_u, yv12_v};
-ghost use Rattle.planar_yuv.specs.Answers.{reply_of, from_pitch, from_width, Legal, TexelOf, PlanesOf, RowsHold};
+ghost use Rattle.planar_yuv.specs.Offsets.{contains};
+ghost use Rattle.planar_yuv.specs.Answers.{reply_of, from_pitch, from_width, Legal, PlanesOf, RowsHold};
 
 use formats::{MAX_TEXTURE_DIM, PlanarYuv};
 
-// Where the planes of a frame stand. Offsets take luma coordinates; the four texels of a 2 x 2 block share their chroma.
+mod texel;
+
+pub use texel::PlanarTexel;
+
+// Where the planes of a frame stand.
 #[derive(Clone, Copy)]
 pub struct PlanarYuvLayout {
     pub pitch: u32,
@@ -40,45 +44,6 @@ impl PlanarYuvLayout {
         ensures { result ≡ self.luma_rows + self.chroma_rows }
     {
         self.luma_rows + self.chroma_rows
-    }
-
-    // The luma byte.
-    #[tactic(auto, using(crate::proofs::Bounds::luma_row), unfolding(crate::specs::Offsets::luma_offset_at))]
-    pub fn luma_offset(self, x: usize, y: usize) -> usize
-        requires { TexelOf self x y }
-        ensures { result ≡ luma_offset_at self.pitch x y }
-    {
-        y * (self.pitch as usize) + x
-    }
-
-    // The U byte of NV12; the V byte is the next one.
-    #[tactic(auto, using(crate::proofs::Bounds::base, crate::proofs::Bounds::pair_row), unfolding(crate::specs::Offsets::nv12_u))]
-    pub fn nv12_uv_offset(self, x: usize, y: usize) -> usize
-        requires { TexelOf self x y }
-        ensures { result ≡ nv12_u self.pitch self.luma_rows x y }
-    {
-        let pitch = self.pitch as usize;
-        pitch * (self.luma_rows as usize) + y / 2 * pitch + 2 * (x / 2)
-    }
-
-    // The V byte of YV12.
-    #[tactic(auto, using(crate::proofs::Bounds::base, crate::proofs::Bounds::half_row), unfolding(crate::specs::Offsets::yv12_v))]
-    pub fn yv12_v_offset(self, x: usize, y: usize) -> usize
-        requires { TexelOf self x y }
-        ensures { result ≡ yv12_v self.pitch self.luma_rows x y }
-    {
-        let pitch = self.pitch as usize;
-        pitch * (self.luma_rows as usize) + y / 2 * (pitch / 2) + x / 2
-    }
-
-    // The U byte of YV12: the U plane starts where the chroma rows of the V plane end.
-    #[tactic(auto, using(crate::proofs::Bounds::base, crate::proofs::Bounds::half_row, crate::proofs::Bounds::plane), unfolding(crate::specs::Offsets::yv12_u, crate::specs::Offsets::yv12_v))]
-    pub fn yv12_u_offset(self, x: usize, y: usize) -> usize
-        requires { TexelOf self x y }
-        ensures { result ≡ yv12_u self.pitch self.luma_rows x y }
-    {
-        let half_pitch = (self.pitch as usize) / 2;
-        self.yv12_v_offset(x, y) + (self.chroma_rows as usize) * half_pitch
     }
 
     // Whether (x, y) is a texel of the luma plane, whose rows count up to the pitch, padding included.

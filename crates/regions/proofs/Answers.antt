@@ -1,7 +1,6 @@
 -- A conversion by its reply: refused, empty or accepted, and all that the contract says of each. Assumes nothing.
-use Rattle.std.specs.Prelude.{◌≡◌, refl, Bool, true, false, ◌||◌, List, ℕ, ◌+◌, ◌<◌, eqb, length, get_or, Result, Ok, Err}
+use Rattle.std.proofs.Common.{◌≡◌, refl, Bool, true, false, ◌||◌, List, ℕ, ◌+◌, ◌<◌, eqb, length, get_or, Result, Ok, Err, ap, ◌∙◌, subst, arith, eqb-true}
 use Rattle.std.proofs.Math.Path.{sym}
-use Rattle.std.proofs.Common.{ap, ◌∙◌, subst, arith, eqb-true}
 use Rattle.std.proofs.lemmas.Bool.{false≢true}
 use Rattle.words.specs.Iterate.{iterate_keeps}
 use Rattle.yuv_sets.specs.declared.YuvSet.{YuvSet}

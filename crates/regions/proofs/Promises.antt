@@ -1,9 +1,5 @@
 -- Near, own and kept hold of every conversion. Assumes nothing.
-use Rattle.std.specs.Prelude.{◌≡◌, refl, Bool, true, false, ℤ, pos, negsuc, length, get_or, take, drop, Result, Ok, Err}
-use Rattle.std.proofs.Common.{sym, ap, ◌∙◌, subst, div-one, ne_eqb}
-use mathlib.Core.List.{List, [], ◌∷◌}
-use Prim.Native.Nat.{ℕ, zero, suc, ◌+◌, ◌-◌, ◌/◌, ◌^◌, ◌≤◌, ◌<◌}
-use native.Mathlib.Omega.{arith}
+use Rattle.std.proofs.Common.{◌≡◌, refl, Bool, true, false, ℤ, pos, negsuc, length, get_or, take, drop, Result, Ok, Err, sym, ap, ◌∙◌, subst, div-one, ne_eqb, List, [], ◌∷◌, ℕ, zero, suc, ◌+◌, ◌-◌, ◌/◌, ◌^◌, ◌≤◌, ◌<◌, arith}
 use Rattle.words.specs.Little.{number}
 use Rattle.words.specs.Tests.{pick}
 use Rattle.formats.specs.Lanes.{Channel, red, green, blue, Lane, nowhere, at}

@@ -1,8 +1,7 @@
 -- A row by blocks: the offsets that are carried along it are the ones worked out afresh, and reading and writing its blocks writes its texels.
 -- Assumes nothing.
 use Rattle.std.specs.Prelude.{◌≡◌, true, List, ℕ, ◌+◌, ◌*◌, ◌-◌, ◌≤◌, ◌<◌, length, take, drop}
-use Rattle.std.proofs.Math.Path.{sym, ap, ap₂, subst}
-use Rattle.std.proofs.Common.{◌∙◌, zero-add, add-zero, one-mul, add-mul, add_assoc, arith}
+use Rattle.std.proofs.Common.{sym, ap, ap₂, subst, ◌∙◌, zero-add, add-zero, one-mul, add-mul, add_assoc, arith}
 use Rattle.std.proofs.Math.Seq.{sets}
 use Rattle.words.specs.Little.{number}
 use Rattle.words.specs.Iterate.{iterate, iterate_zero, iterate_add, iterate_same}
@@ -135,27 +134,23 @@ module _ (numbers : YuvSet) (src : List ℕ) (m s d : ℕ) (r : ConvertRegion) (
         ∙ sym (lane_texel numbers src s r.src_pitch r.src_slice_pitch z (r.src_y + row) (r.src_x + (col + k)) (lane_only s lane).0 (lane_only s lane).1 (source_ends (col + k) (omega (arith, h, within)))))
 
   -- a row's first offsets, as they are worked out from the bytes of a texel
-  module _ (from_size to_size : ℕ) (e : from_size ≡ bytes_of s) (f : to_size ≡ bytes_of d) where
-    abbrev first_offset_from : ℕ
-    first_offset_from = z * r.src_slice_pitch + (r.src_y + row) * r.src_pitch + r.src_x * from_size
+  pub first_carried : (from_size to_size : ℕ) → from_size ≡ bytes_of s → to_size ≡ bytes_of d
+      → CarriedIn s d r z row 0 (z * r.src_slice_pitch + (r.src_y + row) * r.src_pitch + r.src_x * from_size) (z * r.dst_slice_pitch + (r.dst_y + row) * r.dst_pitch + r.dst_x * to_size)
+  first_carried from_size to_size e f = carried_first s d r.src_pitch r.src_slice_pitch r.dst_pitch r.dst_slice_pitch z (r.src_y + row) (r.dst_y + row) r.src_x r.dst_x from_size to_size e f
 
-    abbrev first_offset_to : ℕ
-    first_offset_to = z * r.dst_slice_pitch + (r.dst_y + row) * r.dst_pitch + r.dst_x * to_size
-
-    pub first_carried : CarriedIn s d r z row 0 first_offset_from first_offset_to
-    first_carried = carried_first s d r.src_pitch r.src_slice_pitch r.dst_pitch r.dst_slice_pitch z (r.src_y + row) (r.dst_y + row) r.src_x r.dst_x from_size to_size e f
-
+  -- from a row's first offsets on
+  module _ (from to : ℕ) (first : CarriedIn s d r z row 0 from to) where
     -- the whole row lies behind them
-    pub row_read : first_offset_from + r.width * bytes_of s ≤ length src
-    row_read = read_room 0 r.width first_offset_from first_offset_to first_carried fits.rows.0 (omega arith)
+    pub row_read : from + r.width * bytes_of s ≤ length src
+    row_read = read_room 0 r.width from to first fits.rows.0 (omega arith)
 
-    pub row_write : first_offset_to + r.width * bytes_of d ≤ m
-    row_write = write_room 0 r.width first_offset_from first_offset_to first_carried fits.rows.0 (omega arith)
+    pub row_write : to + r.width * bytes_of d ≤ m
+    row_write = write_room 0 r.width from to first fits.rows.0 (omega arith)
 
     -- A8R8G8B8: the row is written from the words where they lie
-    pub lying_row : s ≡ A8R8G8B8 → (dst out : List ℕ) (after : ℕ) → WordsWritten (word_in src first_offset_from) d first_offset_to r.width dst out after → out ≡ iterate (written numbers src s d r z row) r.width dst
+    pub lying_row : s ≡ A8R8G8B8 → (dst out : List ℕ) (after : ℕ) → WordsWritten (word_in src from) d to r.width dst out after → out ≡ iterate (written numbers src s d r z row) r.width dst
     lying_row g dst out after wrote =
         let l : 0 + r.width ≤ r.width = omega arith in
-        block_rows 0 r.width first_offset_from first_offset_to first_carried fits.rows.0 l (word_in src first_offset_from) dst dst out after wrote
-        (lying_texels 0 r.width first_offset_from first_offset_to first_carried fits.rows.0 l g) (sym (iterate_zero (written numbers src s d r z row) dst))
+        block_rows 0 r.width from to first fits.rows.0 l (word_in src from) dst dst out after wrote
+        (lying_texels 0 r.width from to first fits.rows.0 l g) (sym (iterate_zero (written numbers src s d r z row) dst))
         ∙ ap (λ n. iterate (written numbers src s d r z row) n dst) (zero-add r.width)

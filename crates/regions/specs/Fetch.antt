@@ -1,10 +1,7 @@
 -- The source texel by the kind of its picture, and what an offset that is worked out afresh stays below. Assumes nothing.
-use Rattle.std.specs.Prelude.{◌≡◌, refl, Bool, true, false, ◌&&◌, ◌||◌, eqb, ltb, length, take, drop}
-use Rattle.std.proofs.Common.{sym, ap₂, ◌∙◌, arith, get_or-take, ltb-true}
-use Rattle.std.proofs.Math.Path.{ap}
+use Rattle.std.specs.Prelude.{◌≡◌, refl, Bool, true, false, ◌&&◌, ◌||◌, eqb, ltb, length, take, drop, List, [], ◌∷◌, ℕ, ◌+◌, ◌/◌, ◌%◌, ◌≤◌, ◌<◌}
+use Rattle.std.proofs.Common.{sym, ap₂, ◌∙◌, arith, get_or-take, ltb-true, ap}
 use Rattle.std.proofs.lemmas.Bool.{false≢true}
-use mathlib.Core.List.{List, [], ◌∷◌}
-use Prim.Native.Nat.{ℕ, ◌+◌, ◌/◌, ◌%◌, ◌≤◌, ◌<◌}
 use Rattle.std.proofs.lemmas.List.Edits.{sets}
 use Rattle.words.specs.Little.{number}
 use Rattle.words.specs.Iterate.{iterate_same}

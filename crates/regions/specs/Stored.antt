@@ -1,13 +1,7 @@
 -- After an accepted conversion: where destination texels share no byte, each holds its own bytes, and so lies near its source; and a byte of
 -- no destination texel is as it was. Assumes nothing.
-use Rattle.std.specs.Prelude.{◌≡◌, ◌⊎◌, drop}
-use Rattle.std.proofs.Math.Path.{refl, ap}
-use Rattle.std.proofs.Common.{sym, ◌∙◌}
-use mathlib.Core.List.{List}
-use Rattle.std.proofs.Math.Logic.{inl, inr, ⊎_elim}
-use Prim.Native.Nat.{ℕ, ◌+◌, ◌≤◌, ◌<◌}
-use native.Mathlib.Omega.{arith}
-use Rattle.std.proofs.Math.ListN.{length, get_or, take}
+use Rattle.std.specs.Prelude.{◌≡◌, ◌⊎◌, drop, refl, List, ℕ, ◌+◌, ◌≤◌, ◌<◌, length, get_or, take}
+use Rattle.std.proofs.Common.{ap, sym, ◌∙◌, inl, inr, ⊎_elim, arith}
 use Rattle.std.proofs.lemmas.List.Edits.{sets}
 use Rattle.std.proofs.Math.Seq.{length-sets}
 use Rattle.words.specs.Iterate.{iterate_keeps}

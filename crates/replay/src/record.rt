@@ -37,6 +37,9 @@ impl<const SIZE: usize> Record<'_, SIZE> {
         (reply != 0) == self.is_refused()
     }
 
+    // The three that follow are asked for a place by a literal; a place that is known to lie in the record would be a type over SIZE,
+    // made of that literal at each of the calls.
+
     /// A number of 64 bits.
     pub(crate) fn long(self, place: usize) -> u64
         requires { 16 + 8 * place ≤ SIZE }

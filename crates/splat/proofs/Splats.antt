@@ -1,14 +1,9 @@
 -- A pattern written from the front of a slice on, by a byte, by a block, and to the end. Assumes nothing.
-use mathlib.Core.Path.{◌≡◌, refl, sym, ap, ◌∙◌, subst}
-use mathlib.Core.List.{List, [], ◌∷◌, ◌++◌}
-use mathlib.Core.Logic.{inl, inr, ⊎_elim}
-use Prim.Native.Nat.{ℕ, ◌+◌, ◌*◌, ◌-◌, ◌/◌, ◌%◌, ◌≤◌, ◌<◌}
-use native.Mathlib.Nat.{mod-lt, div-add-mod', add-zero, mul-add-mod_self_right, mul_assoc, mul-mod_left}
-use native.Mathlib.Omega.{arith}
+use Rattle.std.proofs.Common.{◌≡◌, refl, sym, ap, ◌∙◌, subst, List, [], ◌∷◌, ◌++◌, inl, inr, ⊎_elim, ℕ, ◌+◌, ◌*◌, ◌-◌, ◌/◌, ◌%◌, ◌≤◌, ◌<◌, mod-lt, div-add-mod', add-zero, mul_assoc, arith, length, get_or, set, take, drop, length-drop, length-append, get_or-set_same, get_or-set_other, take-suc, get_or-take, get_or-append-add, length-take-le, get_or-drop, add-one}
+use native.Mathlib.Nat.{mul-add-mod_self_right, mul-mod_left}
 use lib.Arith.{digits_mod, lt_of_le-ne}
-use lib.ListN.{length, get_or, set, take, drop, length-drop, length-append, get_or-append}
-use lib.Seq.{sets, get_or-set_same, get_or-set_other, take-suc, get_or-take, get_or-append-add, length-take-le, get_or-drop}
-use native.Mathlib.Numerals.{add-one}
+use lib.ListN.{get_or-append}
+use lib.Seq.{sets}
 use Rattle.words.specs.Slices.{sets_append, sets_before, sets_inside, part_back, part_read}
 use Rattle.words.specs.Tests.{lt_or_eq, split}
 use Rattle.splat.specs.Splat.{Splat}

@@ -6,8 +6,12 @@ ghost use Rattle.std.specs.Prelude.{◌≡◌, ◌+◌, ◌*◌, ◌-◌, ◌%�
 ghost use Rattle.std.proofs.lemmas.List.Edits.{sets};
 ghost use Rattle.splat.specs.Splat.{Splat, WholePatterns};
 
+// No type for a pattern that is not empty: the one public call tests for it, and each of the three functions behind would have to take
+// the slice out of the type again.
+
 // The pattern, a byte a turn; `phase` is the place in the pattern. It is counted: of what a `zip` of `iter_mut` and `cycle` wrote no
 // proof learns anything.
+#[tactic(auto, using(crate::proofs::Splats::done_byte, crate::proofs::Splats::phase_starts, crate::proofs::Splats::phase_goes_on))]
 fn splat_bytes(dst: &mut [u8], pixel: &[u8])
     requires { 0 < length pixel.now }
     ensures { Splat pixel.now dst.old dst.new }
@@ -27,6 +31,7 @@ const BLOCK: usize = 48;
 
 // A block at the front of a slice, in a loop of constant length: over 64 KiB `first_chunk_mut` takes 1.8 times as long here, and
 // `copy_from_slice` 2.2 times.
+#[tactic(auto, using(crate::proofs::Splats::block_turn))]
 fn put_block(out: &mut [u8], block: &[u8; 48])
     requires { 48 ≤ length out.old }
     ensures { out.new ≡ sets out.old 0 block.now }
@@ -51,6 +56,7 @@ fn splat_blocks(dst: &mut [u8], pixel: &[u8])
 }
 
 // A block at `at`, from `back` bytes before.
+#[tactic(auto, using(crate::proofs::Splats::copied))]
 fn copy_block(dst: &mut [u8], at: usize, back: usize)
     requires { (back ≤ at) × (at + 48 ≤ length dst.old) }
     ensures { dst.new ≡ sets dst.old at (take 48 (drop (at - back) dst.old)) }

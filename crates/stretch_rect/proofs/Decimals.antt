@@ -1,7 +1,6 @@
 -- The numbers of bt601 are document 01's decimals, rounded to 65536ths: so near that each byte is within 1/2 + 1/500 of what the
 -- decimals define, clamped. Assumes nothing.
-use Rattle.std.specs.Prelude.{◌≡◌, ℕ, ◌+◌, ◌*◌, ◌<◌, ◌≤◌, ℤ, pos, ◌-ℤ◌, ◌*ℤ◌}
-use Rattle.std.proofs.Common.{ap, ⊎_elim, arith}
+use Rattle.std.proofs.Common.{◌≡◌, ℕ, ◌+◌, ◌*◌, ◌<◌, ◌≤◌, ℤ, pos, ◌-ℤ◌, ◌*ℤ◌, ap, ⊎_elim, arith}
 use Rattle.words.specs.Integers.{up, dn, up_pos, dn_pos, one_zero, sum, difference, times_up, times_dn}
 use Rattle.yuv_sets.specs.Sets.{bt601}
 use Rattle.stretch_rect.specs.Yuv.{set_unit, set_slack, decimal_unit, decimal_slack, ByteNear, RgbNear, rgb_of, red_exact, green_exact, blue_exact, luma_exact, chroma_exact, luma_decimal, chroma_decimal, red_decimal, green_decimal, blue_decimal}

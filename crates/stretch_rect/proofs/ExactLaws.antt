@@ -1,6 +1,5 @@
 -- How near the colour of a YUV texel lies to its exact values, in quarters. Assumes nothing.
-use Rattle.std.specs.Prelude.{ℕ, ◌*◌, ◌≤◌, ◌<◌, ℤ}
-use Rattle.std.proofs.Common.{arith, lit<, lit≤}
+use Rattle.std.proofs.Common.{ℕ, ◌*◌, ◌≤◌, ◌<◌, ℤ, arith, lit<, lit≤}
 use Rattle.words.specs.Integers.{clamp_to}
 use Rattle.channels.specs.Fractions.{◌over◌, Near, whole_near}
 use Rattle.stretch_rect.specs.declared.Rgb.{Rgb}

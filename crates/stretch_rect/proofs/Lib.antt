@@ -1,6 +1,7 @@
 -- Laws that other crates cite, and what the proofs of several functions use.
 pub mod Sizes
-pub mod Places
+pub mod Bytes
+pub mod Clamps
 pub mod Decimals
 pub mod NearnessLaws
 pub mod ExactLaws

@@ -4,19 +4,18 @@
 // texel's own bytes and for a legal set.
 #![tactic(auto)]
 
-ghost use Rattle.std.specs.Prelude.{◌≡◌, ◌≤◌, ◌<◌, length};
-ghost use Rattle.std.specs.Int.Signed.{mag};
+ghost use Rattle.std.specs.Prelude.{◌≡◌, ◌≤◌, length, unsigned_abs};
 ghost use Rattle.words.specs.Integers.{clamp_to};
 ghost use Rattle.formats.specs.Formats.{packed_yuv_code, planar_yuv_code};
 ghost use Rattle.yuv_sets.specs.Sets.{bt601};
-ghost use Rattle.yuv_sets.specs.Legal.{Legal};
 ghost use Rattle.stretch_rect.specs.Yuv.{luma_part, chroma_part, nearest_whole, rgb_of, RgbNear, set_unit, set_slack, red_exact, green_exact, blue_exact, decimal_unit, decimal_slack, red_decimal, green_decimal, blue_decimal};
 ghost use Rattle.stretch_rect.specs.Samples.{packed_rgb, planar_rgb, Readable};
 
 use formats::{PackedYuv, PlanarYuv};
-use planar_yuv::PlanarYuvLayout;
-use yuv_sets::YuvSet;
+use planar_yuv::PlanarTexel;
+use yuv_sets::LegalSet;
 
+// Red, green and blue.
 #[derive(Clone, Copy)]
 pub struct Rgb {
     pub r: u8,
@@ -24,22 +23,31 @@ pub struct Rgb {
     pub b: u8,
 }
 
-fn scaled_luma(luma: u8, offset: u32, gain: u32) -> i64
-    requires { (offset ≤ 4194303) × (gain ≤ 262143) }
-    ensures { result ≡ luma_part offset gain luma }
+// The luma's part, in 65536ths.
+#[tactic(auto, using(std::proofs::lemmas::Int::ints, crate::proofs::Sizes::gained_fits), unfolding(crate::specs::Yuv::luma_part, crate::specs::Yuv::luma_exact))]
+fn scaled_luma(set: LegalSet, luma: u8) -> i64
+    ensures is { result ≡ luma_part set.numbers.luma_offset set.numbers.luma_gain luma }
+    ensures small { unsigned_abs result ≤ 140737488355328 }
 {
+    let offset = set.numbers.luma_offset;
+    let gain = set.numbers.luma_gain;
     ((luma as i64 * 65536 - offset as i64) * gain as i64) >> 16
 }
 
+// The part of U or V by one gain, in 65536ths.
+#[tactic(auto, using(std::proofs::lemmas::Int::ints, crate::proofs::Sizes::gained_fits), unfolding(crate::specs::Yuv::chroma_part, crate::specs::Yuv::chroma_exact))]
 fn scaled_chroma(sample: u8, centre: u32, gain: u32) -> i64
     requires { (centre ≤ 256) × (gain ≤ 262143) }
-    ensures { result ≡ chroma_part centre gain sample }
+    ensures is { result ≡ chroma_part centre gain sample }
+    ensures small { unsigned_abs result ≤ 140737488355328 }
 {
     ((sample as i64 * 2 - centre as i64) * 32768 * gain as i64) >> 16
 }
 
+// The nearest byte to a channel in 65536ths.
+#[tactic(auto, using(std::proofs::lemmas::Int::ints, crate::proofs::Clamps::below, crate::proofs::Clamps::between, crate::proofs::Clamps::above), unfolding(crate::specs::Yuv::nearest_whole))]
 fn to8(channel: i64) -> u8
-    requires { mag channel < 4611686018427387904 }
+    requires { unsigned_abs channel ≤ 4611686018427387904 }
     ensures { result ≡ clamp_to 255 (nearest_whole channel) }
 {
     let n = (channel + 32768) >> 16;
@@ -54,12 +62,13 @@ fn to8(channel: i64) -> u8
 }
 
 // The colour of a sample by any legal set of numbers.
-pub fn convert_with_set(numbers: YuvSet, luma: u8, cb: u8, cr: u8) -> Rgb
-    requires { Legal numbers }
-    ensures is { result ≡ rgb_of numbers luma cb cr }
-    ensures near { RgbNear set_unit set_slack (red_exact numbers luma cb cr) (green_exact numbers luma cb cr) (blue_exact numbers luma cb cr) result }
+#[tactic(auto, using(std::proofs::lemmas::Int::ints))]
+pub fn convert_with_set(set: LegalSet, luma: u8, cb: u8, cr: u8) -> Rgb
+    ensures is { result ≡ rgb_of set.numbers luma cb cr }
+    ensures near { RgbNear set_unit set_slack (red_exact set.numbers luma cb cr) (green_exact set.numbers luma cb cr) (blue_exact set.numbers luma cb cr) result }
 {
-    let l = scaled_luma(luma, numbers.luma_offset, numbers.luma_gain);
+    let numbers = set.numbers;
+    let l = scaled_luma(set, luma);
     let rv = scaled_chroma(cr, numbers.chroma_centre, numbers.v_to_red);
     let gu = scaled_chroma(cb, numbers.chroma_centre, numbers.u_to_green);
     let gv = scaled_chroma(cr, numbers.chroma_centre, numbers.v_to_green);
@@ -71,51 +80,50 @@ pub fn convert_with_set(numbers: YuvSet, luma: u8, cb: u8, cr: u8) -> Rgb
 }
 
 // The colour of a sample by document 01's numbers.
+#[tactic(auto, using(yuv_sets::specs::Legal::legal, yuv_sets::specs::Legal::bt601_legal, crate::proofs::Decimals::bt601_near))]
 pub fn yuv_to_rgb8(luma: u8, cb: u8, cr: u8) -> Rgb
     ensures is { result ≡ rgb_of bt601 luma cb cr }
     ensures near { RgbNear decimal_unit decimal_slack (red_decimal luma cb cr) (green_decimal luma cb cr) (blue_decimal luma cb cr) result }
 {
-    convert_with_set(yuv_sets::bt601(), luma, cb, cr)
+    let set = LegalSet {
+        numbers: yuv_sets::bt601(),
+    };
+    convert_with_set(set, luma, cb, cr)
 }
 
 // A texel of a macropixel of four bytes, which is Y U Y V in YUY2 and U Y V Y in UYVY; an odd column has the second Y.
-pub fn decode_packed_yuv(numbers: YuvSet, format: PackedYuv, macropixel: &[u8], odd: bool) -> Rgb
-    requires { Legal numbers × (4 ≤ length macropixel.now) }
-    ensures { result ≡ packed_rgb numbers (packed_yuv_code format) macropixel.now odd }
+#[tactic(auto, unfolding(crate::specs::Samples::packed_rgb))]
+pub fn decode_packed_yuv(set: LegalSet, format: PackedYuv, macropixel: &[u8], odd: bool) -> Rgb
+    requires { 4 ≤ length macropixel.now }
+    ensures { result ≡ packed_rgb set.numbers (packed_yuv_code format) macropixel.now odd }
 {
     let luma = if odd { 2 } else { 0 };
+    // No table of functions: each arm hands literals on, so that the compiler makes code for each format.
     match format {
-        PackedYuv::YUY2 => {
-            convert_with_set(numbers, macropixel[luma], macropixel[1], macropixel[3])
-        }
+        PackedYuv::YUY2 => { convert_with_set(set, macropixel[luma], macropixel[1], macropixel[3]) }
         PackedYuv::UYVY => {
-            convert_with_set(numbers, macropixel[luma + 1], macropixel[0], macropixel[2])
+            convert_with_set(set, macropixel[luma + 1], macropixel[0], macropixel[2])
         }
     }
 }
 
-// Texel (x, y) of a planar frame: its own luma byte, and the chroma that its 2 x 2 block shares.
-pub fn decode_planar_yuv(
-    numbers: YuvSet,
-    format: PlanarYuv,
-    frame: &[u8],
-    layout: PlanarYuvLayout,
-    x: usize,
-    y: usize,
-) -> Rgb
-    requires { Legal numbers × Readable (planar_yuv_code format) frame.now layout x y }
-    ensures { result ≡ planar_rgb numbers (planar_yuv_code format) frame.now layout.pitch layout.luma_rows x y }
+// A texel of a planar frame: its own luma byte, and the chroma that its 2 x 2 block shares.
+#[tactic(auto, using(planar_yuv::proofs::ByFormat::u_yv12, planar_yuv::proofs::ByFormat::u_nv12, planar_yuv::proofs::ByFormat::v_yv12, planar_yuv::proofs::ByFormat::v_nv12), unfolding(crate::specs::Samples::planar_rgb))]
+pub fn decode_planar_yuv(set: LegalSet, format: PlanarYuv, frame: &[u8], texel: PlanarTexel) -> Rgb
+    requires { Readable (planar_yuv_code format) frame.now texel.layout texel.x texel.y }
+    ensures { result ≡ planar_rgb set.numbers (planar_yuv_code format) frame.now texel.layout.pitch texel.layout.luma_rows texel.x texel.y }
 {
-    let luma = layout.luma_offset(x, y);
+    let luma = texel.luma_offset();
+    // No table of functions: each arm names its own offsets, so that the compiler makes code for each format.
     match format {
         PlanarYuv::YV12 => {
-            let u = layout.yv12_u_offset(x, y);
-            let v = layout.yv12_v_offset(x, y);
-            convert_with_set(numbers, frame[luma], frame[u], frame[v])
+            let u = texel.yv12_u_offset();
+            let v = texel.yv12_v_offset();
+            convert_with_set(set, frame[luma], frame[u], frame[v])
         }
         PlanarYuv::NV12 => {
-            let pair = layout.nv12_uv_offset(x, y);
-            convert_with_set(numbers, frame[luma], frame[pair], frame[pair + 1])
+            let pair = texel.nv12_uv_offset();
+            convert_with_set(set, frame[luma], frame[pair], frame[pair + 1])
         }
     }
 }

@@ -1,7 +1,7 @@
 // A texel's word in one of the RGB formats, from a byte for each channel; and A8R8G8B8 words, read from texels and written as texels.
 // Crate `texels` has the definitions and decodes.
 // Ported from pixel_convert.rs of athei/mtld3d (an altered version, see NOTICE).
-#![tactic(auto)]
+#![tactic(auto, unfolding(texels::specs::Texels::encoded_of, formats::specs::Table::parts_of, channels::specs::Expansion::truncated))]
 
 ghost use Rattle.std.specs.Prelude.{◌≡◌, ◌≤◌, length, take};
 ghost use Rattle.std.proofs.lemmas.List.Edits.{sets};
@@ -35,6 +35,7 @@ fn encode_x8r8g8b8(t: Texel) -> u32
 }
 
 // A function for each of these: as instances of one over the widths A1R5G5B5 took 1.2 times as long to write, A4R4G4B4 1.1 (measured).
+#[tactic(auto, using(crate::proofs::Parts::parts_565), unfolding(texels::specs::Texels::encoded_of, formats::specs::Table::parts_of, channels::specs::Expansion::truncated))]
 fn encode_r5g6b5(t: Texel) -> u16
     ensures { result ≡ encoded_of R5G6B5 t }
 {
@@ -44,6 +45,7 @@ fn encode_r5g6b5(t: Texel) -> u16
     (r5 << 11) | ((g6 << 5) | b5)
 }
 
+#[tactic(auto, using(crate::proofs::Parts::parts_1555), unfolding(texels::specs::Texels::encoded_of, formats::specs::Table::parts_of, channels::specs::Expansion::truncated))]
 fn encode_a1r5g5b5(t: Texel) -> u16
     ensures { result ≡ encoded_of A1R5G5B5 t }
 {
@@ -60,6 +62,7 @@ fn encode_x1r5g5b5(t: Texel) -> u16
     encode_a1r5g5b5(t.opaque())
 }
 
+#[tactic(auto, using(crate::proofs::Parts::parts_4444), unfolding(texels::specs::Texels::encoded_of, formats::specs::Table::parts_of, channels::specs::Expansion::truncated))]
 fn encode_a4r4g4b4(t: Texel) -> u16
     ensures { result ≡ encoded_of A4R4G4B4 t }
 {
@@ -101,6 +104,7 @@ fn encode_a8l8(t: Texel) -> u16
 }
 
 // The bytes of a texel at the front of `out`, in one of the RGB formats.
+#[tactic(auto, unfolding(texels::specs::Texels::encoded_bytes, formats::specs::Table::bytes_of, formats::specs::Table::parts_of))]
 pub fn encode_rgb_pixel(format: RgbFormat, t: Texel, out: &mut [u8])
     requires { bytes_of (rgb_code format) ≤ length out.old }
     ensures { out.new ≡ sets out.old 0 (encoded_bytes (rgb_code format) t) }
@@ -124,6 +128,7 @@ pub fn encode_rgb_pixel(format: RgbFormat, t: Texel, out: &mut [u8])
 // ---- A8R8G8B8 words, which stand for texels between the reading and the writing of a block of them
 
 // The texel at the front of `px`, of any format with lanes, as its A8R8G8B8 word.
+#[tactic(auto)]
 pub fn read_word(format: LaneSource, px: &[u8]) -> u32
     requires { bytes_of (lane_source_code format) ≤ length px.now }
     ensures { result ≡ encoded_of A8R8G8B8 (decoded_of (lane_source_code format) (number (take (bytes_of (lane_source_code format)) px.now))) }
@@ -132,6 +137,7 @@ pub fn read_word(format: LaneSource, px: &[u8]) -> u32
 }
 
 // The R5G6B5 word of a word's texel: the top bits of each lane, with no byte between.
+#[tactic(auto, using(crate::proofs::Parts::parts_of_bytes, texels::proofs::Lanes::expanded_byte), unfolding(texels::specs::Texels::decoded_of, texels::specs::Texels::encoded_of, texels::specs::Texels::colour_of, formats::specs::Table::lane_of, formats::specs::Table::parts_of, channels::specs::Expansion::truncated))]
 fn word_r5g6b5(word: u32) -> u16
     ensures { result ≡ encoded_of R5G6B5 (decoded_of A8R8G8B8 word) }
 {
@@ -142,6 +148,7 @@ fn word_r5g6b5(word: u32) -> u16
 }
 
 // The bytes of a word's texel at the front of `out`, in one of the RGB formats.
+#[tactic(auto, unfolding(texels::specs::Texels::encoded_bytes, formats::specs::Table::bytes_of, formats::specs::Table::parts_of))]
 pub fn write_word(format: RgbFormat, word: u32, out: &mut [u8])
     requires { bytes_of (rgb_code format) ≤ length out.old }
     ensures { out.new ≡ sets out.old 0 (encoded_bytes (rgb_code format) (decoded_of A8R8G8B8 word)) }

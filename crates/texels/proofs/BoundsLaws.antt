@@ -1,6 +1,5 @@
 -- THE ERROR BOUND: whatever the source, each channel that an RGB destination stores lies near the source's exact value. Assumes nothing.
-use Rattle.std.specs.Prelude.{◌≡◌, true, ℕ, ◌≤◌}
-use Rattle.std.proofs.Common.{sym, subst, arith, le_trans}
+use Rattle.std.proofs.Common.{◌≡◌, true, ℕ, ◌≤◌, sym, subst, arith, le_trans}
 use Rattle.std.proofs.lemmas.Bool.{false≢true}
 use Rattle.words.specs.Little.{number}
 use Rattle.formats.specs.Lanes.{Channel, red, green, blue, alpha, luminance, depth, stencil, padding, Lane, nowhere, at, bits}

@@ -1,7 +1,6 @@
 -- Encoding what was decoded from the same RGB format restores every bit but X. Assumes nothing.
-use Rattle.std.specs.Prelude.{◌≡◌, refl, true, ◌||◌, ℕ, ◌≤◌}
+use Rattle.std.proofs.Common.{◌≡◌, refl, true, ◌||◌, ℕ, ◌≤◌, ◌∙◌, subst}
 use Rattle.std.proofs.Math.Path.{ap}
-use Rattle.std.proofs.Common.{◌∙◌, subst}
 use Rattle.std.proofs.lemmas.Bool.{false≢true}
 use Rattle.std.proofs.Math.Dec.{T}
 use Rattle.formats.specs.Codes.{A8R8G8B8}

@@ -1,7 +1,7 @@
 // A texel as a byte for each channel, from the word that it is in its format: the RGB formats, and those that convert into A8R8G8B8
 // alone. specs/Texels has what a word decodes to and a texel encodes to, from the lane table, and the exact values of its channels.
 // Ported from pixel_convert.rs of athei/mtld3d (an altered version, see NOTICE).
-#![tactic(auto)]
+#![tactic(auto, using(crate::proofs::Lanes::expanded_byte), unfolding(crate::specs::Texels::decoded_of, crate::specs::Texels::colour_of, crate::specs::Texels::missing_colour, formats::specs::Table::lane_of, formats::specs::Table::parts_of))]
 
 ghost use Rattle.std.specs.Prelude.{◌≡◌, ◌*◌, ◌≤◌, ◌%◌, length, take};
 ghost use Rattle.words.specs.Little.{number};
@@ -134,6 +134,7 @@ fn decode_a8l8(v: u16) -> Texel
 }
 
 // The lower half of a word, a 16-bit code, as the nearest byte.
+#[tactic(auto, using(crate::specs::Words::sixteen))]
 fn nearest16(v: u32) -> u8
     ensures { result ≡ rounded (255 * (v % 65536)) 65535 }
 {
@@ -238,6 +239,7 @@ fn decode_a32b32g32r32f(px: &[u8]) -> Texel
 // A `match` and no table of functions, here and where texels are written: the compiler sees a loop's format through it.
 
 // The texel at the front of `px`, of an RGB format.
+#[tactic(auto, unfolding(formats::specs::Table::bytes_of, formats::specs::Table::parts_of))]
 fn decode_rgb(format: RgbFormat, px: &[u8]) -> Texel
     requires { bytes_of (rgb_code format) ≤ length px.now }
     ensures { result ≡ decoded_of (rgb_code format) (number (take (bytes_of (rgb_code format)) px.now)) }
@@ -259,6 +261,7 @@ fn decode_rgb(format: RgbFormat, px: &[u8]) -> Texel
 }
 
 // The same of a source of whole numbers.
+#[tactic(auto, unfolding(formats::specs::Table::bytes_of, formats::specs::Table::parts_of))]
 fn decode_code_source(format: CodeSource, px: &[u8]) -> Texel
     requires { bytes_of (code_source_code format) ≤ length px.now }
     ensures { result ≡ decoded_of (code_source_code format) (number (take (bytes_of (code_source_code format)) px.now)) }
@@ -275,6 +278,7 @@ fn decode_code_source(format: CodeSource, px: &[u8]) -> Texel
 }
 
 // The same of any format with lanes.
+#[tactic(auto, unfolding(formats::specs::Table::bytes_of, formats::specs::Table::parts_of))]
 pub fn decode_pixel(format: LaneSource, px: &[u8]) -> Texel
     requires { bytes_of (lane_source_code format) ≤ length px.now }
     ensures { result ≡ decoded_of (lane_source_code format) (number (take (bytes_of (lane_source_code format)) px.now)) }

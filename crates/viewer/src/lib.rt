@@ -1,6 +1,6 @@
 // What a viewer relies on, by the contracts of the exported calls alone: a depth picture comes back, and whatever is refused has left
 // every byte. specs/ has what follows of the definitions: demand 3, and the worked table. No part of the library.
-// The calls are made with numbers, as the C interface takes them.
+// The calls are made with numbers, one by one, as the C interface takes them.
 #![tactic(auto)]
 
 ghost use Rattle.std.specs.Prelude.{◌≡◌, ◌<◌, length};

@@ -1,6 +1,5 @@
 -- Laws on what specs/Iterate.antt defines, which rest on laws there. Assumes nothing.
-use Rattle.std.specs.Prelude.{◌≡◌, refl, List, ℕ, zero, suc, ◌+◌, ◌*◌, ◌/◌, ◌%◌, ◌<◌, length}
-use Rattle.std.proofs.Common.{sym, ap, ◌∙◌, subst, ⊎_elim, arith, not-suc-le-zero, zero-mul, suc-mul}
+use Rattle.std.proofs.Common.{◌≡◌, refl, List, ℕ, zero, suc, ◌+◌, ◌*◌, ◌/◌, ◌%◌, ◌<◌, length, sym, ap, ◌∙◌, subst, ⊎_elim, arith, not-suc-le-zero, zero-mul, suc-mul}
 use Rattle.std.proofs.Math.Arith.{digits_div, digits_mod}
 use Rattle.words.specs.Tests.{lt_or_eq}
 use Rattle.words.specs.Iterate.{iterate, iterate_more, iterate_keeps, iterate_add, iterate_same}

@@ -10,6 +10,7 @@ use Rattle.stretch_rect.specs.Yuv.{rgb_of}
 use Rattle.yuv_parts.specs.Parts.{joined, joined_set}
 use Rattle.yuv_parts.specs.Lines.{luma_base_of, chroma_base_of, on_line, luma_line, chroma_line, luma_base_small, chroma_base_small}
 use Rattle.regions.specs.Regions.{opaque_of}
+use Rattle.yuv_lines.specs.Sizes.{LineSized, Sized}
 use Rattle.yuv_lines.specs.declared.Line.{Line}
 use Rattle.yuv_lines.specs.declared.Lines.{Lines}
 use Rattle.yuv_lines.specs.declared.Samples.{Samples}
@@ -32,19 +33,6 @@ lines_of s = record {
   v_green = chroma_of s.chroma_centre s.v_to_green;
   u_blue = chroma_of s.chroma_centre s.u_to_blue;
 }
-
--- 32 bits have room for a line with such a gain and such a base
-pub record LineSized (l : Line) : Type 0 where
-  pub gain_most : l.gain ≤ 262143
-  pub base_most : l.base ≤ 67108864
-
--- and for five such lines
-pub record Sized (l : Lines) : Type 0 where
-  pub luma : LineSized l.luma
-  pub v_red : LineSized l.v_red
-  pub u_green : LineSized l.u_green
-  pub v_green : LineSized l.v_green
-  pub u_blue : LineSized l.u_blue
 
 -- the colour of a sample whose parts lie on lines
 unfoldable pub rgb_on : Lines → (y u v : ℕ) → Rgb

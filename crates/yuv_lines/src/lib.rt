@@ -6,14 +6,19 @@
 ghost use Rattle.std.specs.Prelude.{◌≡◌, ℕ, ◌≤◌};
 ghost use Rattle.formats.specs.Codes.{A8R8G8B8};
 ghost use Rattle.texels.specs.Texels.{encoded_of};
-ghost use Rattle.yuv_sets.specs.Legal.{Legal};
 ghost use Rattle.stretch_rect.specs.Yuv.{rgb_of};
 ghost use Rattle.yuv_parts.specs.Parts.{PartSize, joined};
 ghost use Rattle.yuv_parts.specs.Lines.{on_line};
 ghost use Rattle.regions.specs.Regions.{opaque_of};
-ghost use Rattle.yuv_lines.specs.Pairs.{luma_of, chroma_of, lines_of, rgb_on, LineSized, Sized, pair_on};
+ghost use Rattle.yuv_lines.specs.Sizes.{LineSized};
+ghost use Rattle.yuv_lines.specs.Pairs.{luma_of, chroma_of, lines_of, rgb_on, pair_on};
 
-use yuv_sets::YuvSet;
+use yuv_parts::Parts;
+use yuv_sets::LegalSet;
+
+mod sized;
+
+pub use sized::SizedLines;
 
 // A line: its gain, and the base that is taken from the product.
 #[derive(Clone, Copy)]
@@ -49,68 +54,91 @@ pub struct Pair {
 }
 
 impl Line {
-    fn luma(offset: u32, gain: u32) -> Line
-        requires { (offset ≤ 4194303) × (gain ≤ 262143) }
-        ensures { result ≡ luma_of offset gain }
+    // The line of luma.
+    #[tactic(auto, using(yuv_parts::specs::Lines::luma_base_small), unfolding(yuv_parts::specs::Lines::luma_base_of))]
+    fn luma(set: LegalSet) -> Line
+        ensures is { result ≡ luma_of set.numbers.luma_offset set.numbers.luma_gain }
+        ensures sized { LineSized result }
     {
+        let offset = set.numbers.luma_offset;
+        let gain = set.numbers.luma_gain;
         let base = ((offset as u64 * gain as u64 + 65535) / 65536) as u32;
         Line { gain, base }
     }
 
+    // The line of chroma by one gain.
+    #[tactic(auto, using(yuv_parts::specs::Lines::chroma_base_small), unfolding(yuv_parts::specs::Lines::chroma_base_of))]
     fn chroma(centre: u32, gain: u32) -> Line
         requires { (centre ≤ 256) × (gain ≤ 262143) }
-        ensures { result ≡ chroma_of centre gain }
+        ensures is { result ≡ chroma_of centre gain }
+        ensures sized { LineSized result }
     {
         let base = (centre * gain + 1) / 2;
         Line { gain, base }
     }
 
     // The part of a sample.
+    #[tactic(auto, using(std::proofs::lemmas::Int::ints, crate::proofs::Sampled::sampled_fits, yuv_parts::specs::Lines::line_small))]
     fn part(self, sample: u8) -> i32
         requires { LineSized self }
-        ensures { result ≡ on_line self.gain self.base sample }
+        ensures is { result ≡ on_line self.gain self.base sample }
+        ensures small { PartSize result }
     {
         sample as i32 * self.gain as i32 - self.base as i32
     }
 }
 
-// The lines of a set.
-pub fn lines_of(numbers: YuvSet) -> Lines
-    requires { Legal numbers }
-    ensures is { result ≡ lines_of numbers }
-    ensures colours { (y u v : ℕ) → rgb_on result y u v ≡ rgb_of numbers y u v }
+// The lines of a legal set.
+#[tactic(auto, using(crate::specs::Pairs::set_lines), unfolding(crate::specs::Pairs::lines_of))]
+pub fn lines_of(set: LegalSet) -> SizedLines
+    ensures is { result.lines ≡ lines_of set.numbers }
+    ensures colours { (y u v : ℕ) → rgb_on result.lines y u v ≡ rgb_of set.numbers y u v }
 {
+    let numbers = set.numbers;
     let centre = numbers.chroma_centre;
-    Lines {
-        luma: Line::luma(numbers.luma_offset, numbers.luma_gain),
+    let lines = Lines {
+        luma: Line::luma(set),
         v_red: Line::chroma(centre, numbers.v_to_red),
         u_green: Line::chroma(centre, numbers.u_to_green),
         v_green: Line::chroma(centre, numbers.v_to_green),
         u_blue: Line::chroma(centre, numbers.u_to_blue),
-    }
+    };
+    SizedLines { lines }
 }
 
 // The A8R8G8B8 word of the colour that five parts make.
-fn word_of(luma: i32, v_red: i32, u_green: i32, v_green: i32, u_blue: i32) -> u32
-    requires { PartSize luma × PartSize v_red × PartSize u_green × PartSize v_green × PartSize u_blue }
-    ensures { result ≡ encoded_of A8R8G8B8 (opaque_of (joined luma v_red u_green v_green u_blue)) }
+fn word_of(parts: Parts) -> u32
+    ensures { result ≡ encoded_of A8R8G8B8 (opaque_of (joined parts.luma parts.v_red parts.u_green parts.v_green parts.u_blue)) }
 {
-    let colour = yuv_parts::from_parts(luma, v_red, u_green, v_green, u_blue);
-    texel_words::encode_a8r8g8b8(regions::opaque(colour))
+    texel_words::encode_a8r8g8b8(regions::opaque(parts.colour()))
 }
 
 // The words of two texels. What their chroma adds to each is worked out once.
-pub fn pair_words(lines: Lines, s: Samples) -> Pair
-    requires { Sized lines }
-    ensures { result ≡ pair_on lines s }
+#[tactic(auto, using(std::proofs::lemmas::Int::ints), unfolding(crate::specs::Pairs::pair_on, crate::specs::Pairs::rgb_on))]
+pub fn pair_words(lines: SizedLines, s: Samples) -> Pair
+    ensures { result ≡ pair_on lines.lines s }
 {
+    let lines = lines.lines;
     let v_red = lines.v_red.part(s.v);
     let u_green = lines.u_green.part(s.u);
     let v_green = lines.v_green.part(s.v);
     let u_blue = lines.u_blue.part(s.u);
-    let luma = lines.luma.part(s.first);
-    let next_luma = lines.luma.part(s.second);
-    let first = word_of(luma, v_red, u_green, v_green, u_blue);
-    let second = word_of(next_luma, v_red, u_green, v_green, u_blue);
-    Pair { first, second }
+    let first = Parts {
+        luma: lines.luma.part(s.first),
+        v_red,
+        u_green,
+        v_green,
+        u_blue,
+    };
+    let second = Parts {
+        luma: lines.luma.part(s.second),
+        v_red,
+        u_green,
+        v_green,
+        u_blue,
+    };
+    Pair {
+        first: word_of(first),
+        second: word_of(second),
+    }
 }

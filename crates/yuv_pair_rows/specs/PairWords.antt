@@ -1,18 +1,14 @@
 -- The words of the texels of a run of pairs, block by block and texel by texel. Assumes nothing.
-use Rattle.std.specs.Prelude.{◌≡◌, Bool, true, false, List, eqb, ℤ, pos, negsuc, length, get_or}
-use Rattle.std.proofs.Math.Path.{sym, ap, ap₂, subst}
-use Rattle.std.proofs.Common.{◌∙◌, ⊎_elim, add_assoc}
-use Prim.Native.Nat.{ℕ, ◌+◌, ◌*◌, ◌/◌, ◌%◌, ◌≤◌, ◌<◌}
-use Rattle.std.proofs.Math.Nat.{add-mul, zero-mul, one-mul}
-use native.Mathlib.Omega.{arith}
+use Rattle.std.specs.Prelude.{◌≡◌, true, List, ℤ, pos, negsuc, length, get_or, ℕ, ◌+◌, ◌*◌, ◌/◌, ◌%◌, ◌≤◌, ◌<◌}
+use Rattle.std.proofs.Common.{sym, ap, ap₂, subst, ◌∙◌, ⊎_elim, add_assoc, add-mul, zero-mul, one-mul, arith}
 use Rattle.std.proofs.Math.Seq.{sets}
 use Rattle.words.specs.Integers.{clamp_to}
-use Rattle.words.specs.Tests.{pick, lt_or_eq}
-use Rattle.words.specs.Iterate.{iterate, iterate_add, iterate_same}
-use Rattle.formats.specs.Codes.{A8R8G8B8, YV12}
+use Rattle.words.specs.Tests.{lt_or_eq}
+use Rattle.words.specs.Iterate.{iterate, iterate_zero, iterate_add, iterate_same}
+use Rattle.formats.specs.Codes.{A8R8G8B8}
 use Rattle.formats.specs.Lanes.{Channel, red, green, blue, alpha, luminance, depth, stencil, padding}
 use Rattle.formats.specs.Table.{bytes_of}
-use Rattle.formats.specs.Classes.{is_packed_yuv, is_yuv}
+use Rattle.formats.specs.Classes.{is_yuv}
 use Rattle.channels.specs.Luminance.{luminance_byte}
 use Rattle.texels.specs.Texels.{decoded_of, encoded_bytes, byte_of}
 use Rattle.texels.specs.Restored.{word_keeps}
@@ -27,9 +23,11 @@ use Rattle.regions.specs.Regions.{to_at, opaque_of, texel_at, source_texel, writ
 use Rattle.regions.specs.Rows.{RowFits}
 use Rattle.yuv_lines.specs.declared.Lines.{Lines}
 use Rattle.yuv_lines.specs.Pairs.{lines_of, rgb_on, set_lines}
-use Rattle.yuv_pairs.specs.Gathered.{luma_step, luma_gap, chroma_step, Arranged, PairsIn, word_on, PairsRead, yuy2_steps, uyvy_steps}
+use Rattle.yuv_pairs.specs.declared.PairPlaces.{PairPlaces}
+use Rattle.yuv_pairs.specs.Gathered.{luma_step, luma_gap, chroma_step, PairsIn, word_on, PairsRead}
+use Rattle.yuv_pairs.specs.Places.{format_of, luma_at, u_at, v_at, PlacesIn, After, after_none, after_more, by_places, by_numbers}
 use Rattle.yuv_texels.specs.Runs.{run_written}
-use Rattle.yuv_pair_rows.specs.Samples.{luma_on, u_on, v_on, samples_in, texel_samples, first_on, second_on, u_on_lem, v_on_lem}
+use Rattle.yuv_pair_rows.specs.Samples.{luma_on, u_on, v_on, PairAt, samples_in, texel_samples, first_on, second_on, u_on_lem, v_on_lem}
 
 -- the word of texel j of a run of pairs, whose first samples lie at luma, u and v
 unfoldable pub run_word : Lines → (src : List ℕ) (f luma u v j : ℕ) → ℕ
@@ -82,6 +80,36 @@ module _ (l : Lines) (src : List ℕ) (f luma u v done n : ℕ) (was block : Lis
       word : ℕ → ℕ
       word = run_word l src f luma u v
 
+-- ---- a run, block by block
+-- the words of the run whose first pair lies there
+abbrev pub run_from : (l : Lines) (src : List ℕ) (first : PairPlaces) → ℕ → ℕ
+run_from l src first = run_word l src (format_of first) (luma_at first) (u_at first) (v_at first)
+
+-- the texels of done pairs of a run were written from byte to on; the next pair lies at the places, and its texels start at byte off
+pub record PairsWritten (l : Lines) (src : List ℕ) (first : PairPlaces) (d to : ℕ) (was : List ℕ) (done : ℕ) (at : PairPlaces) (dst : List ℕ) (off : ℕ) : Type 0 where
+  pub places : After first done at
+  pub carried : off ≡ to + 2 * done * bytes_of d
+  pub bytes : dst ≡ iterate (word_written (run_from l src first) d to) (2 * done) was
+
+pub written_none : (l : Lines) (src : List ℕ) (first : PairPlaces) (d to : ℕ) (was : List ℕ) → PairsWritten l src first d to was 0 first was to
+written_none l src first d to was = record { places = after_none first; carried = omega arith; bytes = sym (iterate_zero _ _) }
+
+-- n more, by way of a block of m words
+pub written_more : {l : Lines} {src : List ℕ} {first : PairPlaces} {d to : ℕ} {was : List ℕ} {done : ℕ} {at : PairPlaces} {dst : List ℕ} {off j m : ℕ} {stale block out : List ℕ} {next : PairPlaces} {after : ℕ}
+    → (n : ℕ) → PairsWritten l src first d to was done at dst off → j ≡ 2 * n → PairsRead l src (format_of at) (luma_at at) (u_at at) (v_at at) (j / 2) stale block
+    → m ≡ 2 * n → WordsWritten (word_of block) d off m dst out after → After at n next → PairsWritten l src first d to was (done + n) next out after
+written_more {l} {src} {first} {d} {to} {was} {done} {at} {dst} {off} {j} {m} {stale} {block} {out} {next} {after} n p h read e wrote on =
+    let pairs : j / 2 ≡ n = omega (arith, h) in
+    let there = by_numbers p.places (λ f luma u v. PairsRead l src f luma u v n stale block) (subst (λ k. PairsRead l src (format_of at) (luma_at at) (u_at at) (v_at at) k stale block) pairs read) in
+    let words = subst (λ k. WordsWritten (word_of block) d off k dst out after) e wrote in
+    let twice : 2 * done + 2 * n ≡ 2 * (done + n) = omega arith in
+    record {
+      places = after_more first at next done n p.places on;
+      carried = omega (arith, words.carried, p.carried, add-mul (2 * done) (2 * n) (bytes_of d), ap (λ k. k * bytes_of d) twice);
+      bytes = block_run l src (format_of first) (luma_at first) (u_at first) (v_at first) done n stale block there d to was dst out off after p.carried p.bytes words
+          ∙ ap (λ k. iterate (word_written (run_from l src first) d to) k was) twice;
+    }
+
 -- ---- a word is the texel of its sample
 clamp_byte : (z : ℤ) → clamp_to 255 z < 256
 unfolding clamp_to
@@ -118,8 +146,8 @@ module _ (numbers : YuvSet) (src : List ℕ) (m s d : ℕ) (r : ConvertRegion) (
   v = v_on s r.src_pitch r.src_slice_pitch z (r.src_y + row) x
 
   -- the samples of texel j, worked out afresh and by the steps
-  luma_at : (j : ℕ) → luma_on s r.src_pitch r.src_slice_pitch z (r.src_y + row) (x + j) ≡ luma + j % 2 * luma_gap s + j / 2 * luma_step s
-  luma_at j =
+  luma_in_steps : (j : ℕ) → luma_on s r.src_pitch r.src_slice_pitch z (r.src_y + row) (x + j) ≡ luma + j % 2 * luma_gap s + j / 2 * luma_step s
+  luma_in_steps j =
       ⊎_elim
       (λ e. let i : 2 * (j / 2) ≡ j = omega (arith, e) in
       let none : j % 2 * luma_gap s ≡ 0 * luma_gap s = ap (λ k. k * luma_gap s) (omega (arith, e)) in
@@ -136,11 +164,11 @@ module _ (numbers : YuvSet) (src : List ℕ) (m s d : ℕ) (r : ConvertRegion) (
   half_of_lem : (j : ℕ) → (x + j) / 2 ≡ x / 2 + j / 2
   half_of_lem j = omega (arith, even)
 
-  u_at : (j : ℕ) → u_on s r.src_pitch r.src_slice_pitch z (r.src_y + row) (x + j) ≡ u + j / 2 * chroma_step s
-  u_at j = u_on_lem s r.src_pitch r.src_slice_pitch z (r.src_y + row) x yuv even (x + j) (j / 2) (half_of_lem j)
+  u_in_steps : (j : ℕ) → u_on s r.src_pitch r.src_slice_pitch z (r.src_y + row) (x + j) ≡ u + j / 2 * chroma_step s
+  u_in_steps j = u_on_lem s r.src_pitch r.src_slice_pitch z (r.src_y + row) x yuv even (x + j) (j / 2) (half_of_lem j)
 
-  v_at : (j : ℕ) → v_on s r.src_pitch r.src_slice_pitch z (r.src_y + row) (x + j) ≡ v + j / 2 * chroma_step s
-  v_at j = v_on_lem s r.src_pitch r.src_slice_pitch z (r.src_y + row) x yuv even (x + j) (j / 2) (half_of_lem j)
+  v_in_steps : (j : ℕ) → v_on s r.src_pitch r.src_slice_pitch z (r.src_y + row) (x + j) ≡ v + j / 2 * chroma_step s
+  v_in_steps j = v_on_lem s r.src_pitch r.src_slice_pitch z (r.src_y + row) x yuv even (x + j) (j / 2) (half_of_lem j)
 
   -- the colour of samples at three places
   abbrev rgb_of_at : (y' u' v' : ℕ) → Rgb
@@ -154,7 +182,7 @@ module _ (numbers : YuvSet) (src : List ℕ) (m s d : ℕ) (r : ConvertRegion) (
       let shift : r.src_x + (first + j) ≡ x + j = omega arith in
       word_texel (lines_of numbers) _ _ _
       ∙ ap (λ p. opaque_of p) (set_lines numbers _ _ _)
-      ∙ ap (λ p. opaque_of p) (sym (λ i. rgb_of_at (luma_at j i) (u_at j i) (v_at j i)))
+      ∙ ap (λ p. opaque_of p) (sym (λ i. rgb_of_at (luma_in_steps j i) (u_in_steps j i) (v_in_steps j i)))
       ∙ subst (λ k. opaque_of (rgb_of_at (luma_on s r.src_pitch r.src_slice_pitch z (r.src_y + row) k) (u_on s r.src_pitch r.src_slice_pitch z (r.src_y + row) k) (v_on s r.src_pitch r.src_slice_pitch z (r.src_y + row) k)) ≡ texel_at numbers src s r.src_pitch r.src_slice_pitch z (r.src_y + row) (r.src_x + (first + j)))
       shift (sym (texel_samples numbers src s r.src_pitch r.src_slice_pitch z (r.src_y + row) (r.src_x + (first + j)) yuv fit.places))
 
@@ -168,8 +196,8 @@ module _ (numbers : YuvSet) (src : List ℕ) (m s d : ℕ) (r : ConvertRegion) (
       let i = samples_in numbers src s r.src_pitch r.src_slice_pitch z (r.src_y + row) (r.src_x + (first + (2 * k + 1))) yuv fit.places in
       record {
         lumas = subst (λ p. p < length src) (ap (luma_on s r.src_pitch r.src_slice_pitch z (r.src_y + row)) shift ∙ second_on s r.src_pitch r.src_slice_pitch z (r.src_y + row) x yuv even k) i.luma_in;
-        us = subst (λ p. p < length src) (ap (u_on s r.src_pitch r.src_slice_pitch z (r.src_y + row)) shift ∙ u_at (2 * k + 1) ∙ ap (λ n. u + n * chroma_step s) half) i.u_in;
-        vs = subst (λ p. p < length src) (ap (v_on s r.src_pitch r.src_slice_pitch z (r.src_y + row)) shift ∙ v_at (2 * k + 1) ∙ ap (λ n. v + n * chroma_step s) half) i.v_in;
+        us = subst (λ p. p < length src) (ap (u_on s r.src_pitch r.src_slice_pitch z (r.src_y + row)) shift ∙ u_in_steps (2 * k + 1) ∙ ap (λ n. u + n * chroma_step s) half) i.u_in;
+        vs = subst (λ p. p < length src) (ap (v_on s r.src_pitch r.src_slice_pitch z (r.src_y + row)) shift ∙ v_in_steps (2 * k + 1) ∙ ap (λ n. v + n * chroma_step s) half) i.v_in;
       }
 
   -- the run's words, written, are the run
@@ -183,39 +211,16 @@ module _ (numbers : YuvSet) (src : List ℕ) (m s d : ℕ) (r : ConvertRegion) (
       word : ℕ → ℕ
       word = run_word (lines_of numbers) src s luma u v
 
--- ---- pairs further on
--- they lie to one another as the first does
-pub arranged_on : (f luma u v k : ℕ) → Arranged f luma u v → Arranged f (luma + k * luma_step f) (u + k * chroma_step f) (v + k * chroma_step f)
-arranged_on f luma u v k a = record {
-  yuy2 = λ e. let s = yuy2_steps f e in let l = ap (λ n. k * n) s.luma_is in let c = ap (λ n. k * n) s.chroma_is in (omega (arith, (a.yuy2 e).0, l, c), omega (arith, (a.yuy2 e).1, l, c));
-  uyvy = λ e. let s = uyvy_steps f e in let l = ap (λ n. k * n) s.luma_is in let c = ap (λ n. k * n) s.chroma_is in (omega (arith, (a.uyvy e).0, l, c), omega (arith, (a.uyvy e).1, l, c));
-  nv12 = λ e. omega (arith, a.nv12 e);
-}
+  -- the same by the places of the first pair
+  module _ (at : PairPlaces) (there : PairAt at s r.src_pitch r.src_slice_pitch z (r.src_y + row) (r.src_x + first)) where
+    pub run_inside : PlacesIn (length src) at pairs
+    run_inside = by_places there (λ f y' u' v'. PairsIn (length src) f y' u' v' pairs) pairs_in
 
--- and so many of them lie within the same length
-pub pairs_on : (len f luma u v pairs k n : ℕ) → PairsIn len f luma u v pairs → k + n ≤ pairs → PairsIn len f (luma + k * luma_step f) (u + k * chroma_step f) (v + k * chroma_step f) n
-pairs_on len f luma u v pairs k n p h j l =
-    let i = p (k + j) (omega (arith, h, l)) in
-    record {
-      lumas = omega (arith, i.lumas, add-mul k j (luma_step f));
-      us = omega (arith, i.us, add-mul k j (chroma_step f));
-      vs = omega (arith, i.vs, add-mul k j (chroma_step f));
-    }
+    pub run_whole : (to : ℕ) (dst out : List ℕ) → to ≡ to_at d r z row first → out ≡ iterate (word_written (run_from (lines_of numbers) src at) d to) (2 * pairs) dst
+        → out ≡ run_written numbers src s d r z row first (2 * pairs) dst
+    run_whole to dst out e g = run_pairs to dst out e (by_numbers there (λ f y' u' v'. out ≡ iterate (word_written (run_word (lines_of numbers) src f y' u' v') d to) (2 * pairs) dst) g)
 
--- an offset after n more pairs
-pub after_more : (at was step steps k n : ℕ) → step ≡ steps → at ≡ was + k * steps → at + n * step ≡ was + (k + n) * steps
-after_more at was step steps k n e g = let m : n * step ≡ n * steps = ap (λ q. n * q) e in omega (arith, g, m, add-mul k n steps)
-
--- a step is at most a macropixel
-pub steps_small : (f : ℕ) → (luma_step f ≤ 4) × (chroma_step f ≤ 4)
-unfolding luma_step chroma_step
-steps_small f = (go (is_packed_yuv f), more (is_packed_yuv f) (eqb f YV12))
-  where
-    go : (b : Bool) → pick b 4 2 ≤ 4
-    go true = omega arith
-    go false = omega arith
-
-    more : (b c : Bool) → pick b 4 (pick c 1 2) ≤ 4
-    more true c = omega arith
-    more false true = omega arith
-    more false false = omega arith
+-- no pairs are no run
+pub run_none : (numbers : YuvSet) (src : List ℕ) (s d : ℕ) (r : ConvertRegion) (z row first pairs : ℕ) (dst : List ℕ) → pairs ≡ 0 → dst ≡ run_written numbers src s d r z row first (2 * pairs) dst
+unfolding run_written
+run_none numbers src s d r z row first pairs dst e = sym (ap (λ n. iterate (λ k. written numbers src s d r z row (first + k)) (2 * n) dst) e ∙ iterate_zero _ _)

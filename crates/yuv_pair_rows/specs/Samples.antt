@@ -1,14 +1,7 @@
 -- Where the samples of a YUV texel lie, column by column, and that the pairs of a row lie in steps. Assumes nothing.
-use Rattle.std.specs.Prelude.{◌≡◌, Bool, ◌&&◌, List, [], ◌∷◌, ℕ, ◌+◌, ◌*◌, ◌/◌, ◌%◌, ◌<◌, ltb, length, take, drop}
-use Rattle.std.proofs.Math.Path.{refl, sym, ap, ap₂, subst}
-use Rattle.std.proofs.Common.{◌∙◌, ltb-true, eq-eqb, ne_eqb}
-use Rattle.std.proofs.Math.Bool.{true, false}
+use Rattle.std.specs.Prelude.{◌≡◌, Bool, ◌&&◌, List, [], ◌∷◌, ℕ, ◌+◌, ◌*◌, ◌/◌, ◌%◌, ◌<◌, ltb, length, take, drop, refl, true, false, eqb, get_or}
+use Rattle.std.proofs.Common.{sym, ap, subst, ◌∙◌, ltb-true, eq-eqb, ne_eqb, add-mul, arith, get_or-take, get_or-drop}
 use Rattle.std.proofs.lemmas.Bool.{false≢true}
-use Rattle.std.proofs.Math.Nat.{add-mul}
-use native.Mathlib.Omega.{arith}
-use Rattle.std.proofs.Math.Dec.{eqb}
-use Rattle.std.proofs.Math.ListN.{get_or}
-use Rattle.std.proofs.Math.Seq.{get_or-take, get_or-drop}
 use Rattle.words.specs.Tests.{pick, and_left, and_right}
 use Rattle.formats.specs.Codes.{YUY2, YV12}
 use Rattle.formats.specs.Classes.{is_packed_yuv, is_planar_yuv, is_yuv}
@@ -24,8 +17,9 @@ use Rattle.stretch_rect.specs.Yuv.{rgb_of}
 use Rattle.stretch_rect.specs.Samples.{luma_place, u_place, v_place}
 use Rattle.regions.specs.Regions.{opaque_of, texel_of, texel_at}
 use Rattle.regions.specs.Fetch.{kind, place_lt, packed_texel, planar_texel}
-use Rattle.yuv_pairs.specs.Gathered.{luma_step, luma_gap, chroma_step, Arranged}
-use Rattle.yuv_pair_rows.specs.declared.PairPlaces.{PairPlaces}
+use Rattle.yuv_pairs.specs.declared.PairPlaces.{PairPlaces}
+use Rattle.yuv_pairs.specs.Gathered.{luma_step, luma_gap, chroma_step}
+use Rattle.yuv_pairs.specs.Places.{PlacesAre}
 
 module _ (f pitch slice_pitch z y : ℕ) where
   -- the macropixel of a column
@@ -168,27 +162,18 @@ module _ (f pitch slice_pitch z y x : ℕ) (yuv : is_yuv f ≡ true) (even : x %
       (λ p q. rw (q, e) (omega (arith, macro_step k)))
       (λ p q. rw q (planar_v (eqb f YV12) (slice_pitch / pitch) x' k e))
 
-  -- how the three lie to one another
-  pub arranged : Arranged f (luma_on f pitch slice_pitch z y x) (u_on f pitch slice_pitch z y x) (v_on f pitch slice_pitch z y x)
-  unfolding luma_on u_on v_on is_packed_yuv v_offset_at u_offset_at nv12_v
-  arranged = record {
-    yuy2 = λ e. rw (e, even_here) (omega arith, omega arith);
-    uyvy = λ e. rw (e, even_here) (omega arith, omega arith);
-    nv12 = λ e. rw e refl;
-  }
-
 -- ---- the places of a pair, as they are handed on
 -- those of a macropixel
-abbrev pub packed_pair : (f from : ℕ) → PairPlaces
-packed_pair f from = record { luma = from + luma_place f false; u = from + u_place f; v = from + v_place f }
+abbrev pub PackedPair : (at : PairPlaces) (f from : ℕ) → Type 0
+PackedPair at f from = PlacesAre at f (from + luma_place f false) (from + u_place f) (from + v_place f)
 
 -- those of a texel of a planar layout
-abbrev pub planar_pair : (f pitch rows y x : ℕ) → PairPlaces
-planar_pair f pitch rows y x = record { luma = luma_offset_at pitch x y; u = u_offset_at f pitch rows x y; v = v_offset_at f pitch rows x y }
+abbrev pub PlanarPair : (at : PairPlaces) (f pitch rows y x : ℕ) → Type 0
+PlanarPair at f pitch rows y x = PlacesAre at f (luma_offset_at pitch x y) (u_offset_at f pitch rows x y) (v_offset_at f pitch rows x y)
 
 -- those of the pair at column x
-abbrev pub pair_at : (f pitch slice_pitch z y x : ℕ) → PairPlaces
-pair_at f pitch slice_pitch z y x = record { luma = luma_on f pitch slice_pitch z y x; u = u_on f pitch slice_pitch z y x; v = v_on f pitch slice_pitch z y x }
+abbrev pub PairAt : (at : PairPlaces) (f pitch slice_pitch z y x : ℕ) → Type 0
+PairAt at f pitch slice_pitch z y x = PlacesAre at f (luma_on f pitch slice_pitch z y x) (u_on f pitch slice_pitch z y x) (v_on f pitch slice_pitch z y x)
 
 -- a planar texel that is inside is one of its layout
 pub record LaidOut (l : PlanarYuvLayout) (pitch rows x y : ℕ) : Type 0 where
@@ -216,10 +201,10 @@ module _ (len f pitch slice_pitch z y x : ℕ) (l : PlanarYuvLayout) (p : is_pla
         rows_are = ap (λ q. q.luma_rows) e;
       }
 
-  pub planar_pair_lem : is_packed_yuv f ≡ false → planar_pair f l.pitch l.luma_rows y x ≡ pair_at f pitch slice_pitch z y x
+  pub planar_pair_lem : {at : PairPlaces} → is_packed_yuv f ≡ false → PlanarPair at f l.pitch l.luma_rows y x → PairAt at f pitch slice_pitch z y x
   unfolding luma_on u_on v_on
-  planar_pair_lem q = ap₂ (λ a b. planar_pair f a b y x) laid.pitch_is laid.rows_are ∙ rw q refl
+  planar_pair_lem {at} q h = rw q (subst (λ (k : ℕ). PlanarPair at f pitch k y x) laid.rows_are (subst (λ (k : ℕ). PlanarPair at f k l.luma_rows y x) laid.pitch_is h))
 
-pub packed_pair_lem : (f pitch slice_pitch z y x : ℕ) → is_packed_yuv f ≡ true → x % 2 ≡ 0 → packed_pair f (texel_start pitch slice_pitch 4 z y (x / 2)) ≡ pair_at f pitch slice_pitch z y x
+pub packed_pair_lem : (at : PairPlaces) (f pitch slice_pitch z y x : ℕ) → is_packed_yuv f ≡ true → x % 2 ≡ 0 → PackedPair at f (texel_start pitch slice_pitch 4 z y (x / 2)) → PairAt at f pitch slice_pitch z y x
 unfolding luma_on u_on v_on
-packed_pair_lem f pitch slice_pitch z y x q even = rw (q, ne_eqb (x % 2) 1 (λ e. omega (arith, even, e))) refl
+packed_pair_lem at f pitch slice_pitch z y x q even h = rw (q, ne_eqb (x % 2) 1 (λ e. omega (arith, even, e))) h

@@ -1,8 +1,7 @@
 -- Pairs of YUV texels that share their chroma: where their samples lie, what it is to gather them and to read the pairs' words, and the
 -- laws of one pair more. Assumes nothing.
-use Rattle.std.specs.Prelude.{◌≡◌, refl, Bool, true, false, ◌||◌, List, ◌⊎◌, ℕ, ◌+◌, ◌*◌, ◌/◌, ◌%◌, ◌^◌, ◌≤◌, ◌<◌, eqb, length, get_or, set, take, drop}
-use Rattle.std.proofs.Common.{sym, ap, ap₂, ◌∙◌, subst, inl, inr, ⊎_elim, arith, add-zero, div-one, lt_of_lt_of_le, lit<, length-set, length-take, get_or-set_same, get_or-set_other, get_or-take, get_or-drop, eqb-true}
-use Rattle.std.proofs.lemmas.Bool.{false≢true}
+use Rattle.std.specs.Prelude.{◌≡◌, List, ℕ, ◌+◌, ◌*◌, ◌/◌, ◌%◌, ◌^◌, ◌≤◌, ◌<◌, eqb, length, get_or, set, take, drop, refl, Bool, true, false, ◌||◌, ◌⊎◌}
+use Rattle.std.proofs.Common.{sym, ap, ap₂, ◌∙◌, ⊎_elim, arith, add-zero, div-one, lt_of_lt_of_le, lit<, length-set, length-take, get_or-set_same, get_or-set_other, get_or-take, get_or-drop, subst, inl, inr, eqb-true}
 use Rattle.std.proofs.Math.Nat.{pow-le-pow_right}
 use Rattle.words.specs.Tests.{pick, lt_or_eq}
 use Rattle.words.specs.Little.{Small, number, number_byte, number_lt, small_take, small_drop}
@@ -10,6 +9,7 @@ use Rattle.formats.specs.Codes.{YUY2, UYVY, NV12, YV12}
 use Rattle.formats.specs.Classes.{is_packed_yuv, is_planar_yuv, is_yuv}
 use Rattle.yuv_lines.specs.declared.Lines.{Lines}
 use Rattle.yuv_lines.specs.Pairs.{rgb_on, opaque_word}
+use Rattle.std.proofs.lemmas.Bool.{false≢true}
 
 -- ---- where samples lie
 -- so many bytes from a pair's first luma to that of the next pair: a macropixel has two lumas and their chroma, a plane lumas alone
@@ -80,6 +80,11 @@ gather_more src a b step i out w g h e = record {
       (λ same. ap (λ j. get_or (set out i w) j 0) same ∙ get_or-set_same out i w 0 h ∙ e ∙ ap (λ j. get_or src (a + j * step) 0 + get_or src (b + j * step) 0 * 256) (sym same))
       (lt_or_eq k i (omega (arith, l)));
 }
+
+-- the same by the places that the offsets are carried to
+pub gather_next : {src out : List ℕ} {a b step i w x y : ℕ} → Gathered src a b step i out → i < length out → x ≡ a + i * step → y ≡ b + i * step
+    → w ≡ get_or src x 0 + get_or src y 0 * 256 → Gathered src a b step (i + 1) (set out i w)
+gather_next {src} {out} {a} {b} {step} {i} {w} g h e f q = gather_more src a b step i out w g h (q ∙ ap₂ (λ m n. get_or src m 0 + get_or src n 0 * 256) e f)
 
 -- what stands at the other places of a block, and at the two that are set
 module _ (block : List ℕ) (i x y : ℕ) (h : 2 * i + 1 < length block) where
@@ -155,6 +160,10 @@ words_read at src s =
     let high : w / 256 % 256 ≡ get_or src (at + 1) 0 = byte_read 2 at 1 src s (omega arith) in
     omega (arith, few, low, high)
 
+-- ---- what an arm gathers
+pub gathered_at : {src out : List ℕ} {a b s a' b' s' n : ℕ} → a ≡ a' → b ≡ b' → s ≡ s' → Gathered src a b s n out → Gathered src a' b' s' n out
+gathered_at {src = src} e f g h = record { words = λ k l. h.words k l ∙ (λ i. get_or src (e i + k * g i) 0 + get_or src (f i + k * g i) 0 * 256) }
+
 -- ---- the steps of each format
 pub record Steps (f luma gap chroma : ℕ) : Type 0 where
   pub luma_is : luma_step f ≡ luma
@@ -197,10 +206,6 @@ planar_lumas f h a b =
 -- the one that is left
 pub yv12_left : (f : ℕ) → is_yuv f ≡ true → (f ≡ YUY2 → ⊥) → (f ≡ UYVY → ⊥) → (f ≡ NV12 → ⊥) → f ≡ YV12
 yv12_left f h a b c = ⊎_elim (λ e. absurd (c e)) (λ e. e) (planar_left f h a b)
-
--- ---- what an arm gathers
-pub gathered_at : {src out : List ℕ} {a b s a' b' s' n : ℕ} → a ≡ a' → b ≡ b' → s ≡ s' → Gathered src a b s n out → Gathered src a' b' s' n out
-gathered_at {src = src} e f g h = record { words = λ k l. h.words k l ∙ (λ i. get_or src (e i + k * g i) 0 + get_or src (f i + k * g i) 0 * 256) }
 
 -- ---- the room of an arm
 module _ {len f luma u v n a g c : ℕ} (s : Steps f a g c) (r : PairsIn len f luma u v n) where

@@ -3,44 +3,52 @@
 // Ported from pixel_convert.rs of athei/mtld3d (an altered version, see NOTICE).
 #![tactic(auto)]
 
-ghost use Rattle.std.specs.Prelude.{◌≡◌, ◌+◌, ◌*◌, ◌≤◌, length};
-ghost use Rattle.formats.specs.Formats.{packed_yuv_code, planar_yuv_code, yuv_code};
+ghost use Rattle.std.specs.Prelude.{◌≡◌, ◌+◌, ◌*◌, ◌/◌, ◌≤◌, length};
 ghost use Rattle.blocks.specs.Blocks.{TexelsIn};
-ghost use Rattle.yuv_lines.specs.Pairs.{Sized};
-ghost use Rattle.yuv_pairs.specs.Gathered.{two_bytes, Gathered, luma_step, luma_gap, chroma_step, Arranged, PairsIn, Coloured, PairsRead};
+ghost use Rattle.yuv_pairs.specs.Gathered.{two_bytes, Gathered, Coloured, PairsRead};
+ghost use Rattle.yuv_pairs.specs.Places.{format_of, luma_at, u_at, v_at, PlacesIn, LumasGathered, ChromasGathered, HasAfter, After};
 
-use formats::{PackedYuv, PlanarYuv, YuvFormat};
-use yuv_lines::{Lines, Samples};
+use yuv_lines::{Samples, SizedLines};
 
-// ---- steps
+// ---- places
 
-// How many bytes lie from a pair's first luma to that of the next pair.
-pub fn luma_step(format: YuvFormat) -> usize
-    ensures { result ≡ luma_step (yuv_code format) }
-{
-    match format {
-        YuvFormat::Packed(_) => 4,
-        YuvFormat::Planar(_) => 2,
-    }
+// Where the samples of a pair lie, by the format of the picture: in one macropixel, in three planes, or in a plane of luma and one
+// whose words have a U and a V.
+#[derive(Clone, Copy)]
+pub enum PairPlaces {
+    Yuy2 { macropixel: usize },
+    Uyvy { macropixel: usize },
+    Yv12 { luma: usize, u: usize, v: usize },
+    Nv12 { luma: usize, chroma: usize },
 }
 
-// How many bytes lie from a pair's U to that of the next pair, and from V to V.
-pub fn chroma_step(format: YuvFormat) -> usize
-    ensures { result ≡ chroma_step (yuv_code format) }
-{
-    match format {
-        YuvFormat::Packed(_) => 4,
-        YuvFormat::Planar(planar) => planar_chroma_step(planar),
-    }
-}
-
-// The same of planar frames: YV12 has a plane of each, NV12 one of both.
-fn planar_chroma_step(format: PlanarYuv) -> usize
-    ensures { result ≡ chroma_step (planar_yuv_code format) }
-{
-    match format {
-        PlanarYuv::YV12 => 1,
-        PlanarYuv::NV12 => 2,
+impl PairPlaces {
+    // The places of the pair so many pairs further on.
+    #[tactic(auto, using(crate::proofs::Variants::yuy2_room, crate::proofs::Variants::uyvy_room, crate::proofs::Variants::yv12_room, crate::proofs::Variants::nv12_room, crate::proofs::Variants::yuy2_after, crate::proofs::Variants::uyvy_after, crate::proofs::Variants::yv12_after, crate::proofs::Variants::nv12_after))]
+    pub fn after(self, pairs: usize) -> PairPlaces
+        requires { HasAfter self pairs }
+        ensures { After self pairs result }
+    {
+        match self {
+            PairPlaces::Yuy2 { macropixel } => PairPlaces::Yuy2 {
+                macropixel: macropixel + 4 * pairs,
+            },
+            PairPlaces::Uyvy { macropixel } => PairPlaces::Uyvy {
+                macropixel: macropixel + 4 * pairs,
+            },
+            PairPlaces::Yv12 { luma, u, v } => PairPlaces::Yv12 {
+                luma: luma + 2 * pairs,
+                u: u + pairs,
+                v: v + pairs,
+            },
+            PairPlaces::Nv12 { luma, chroma } => {
+                let bytes = 2 * pairs;
+                PairPlaces::Nv12 {
+                    luma: luma + bytes,
+                    chroma: chroma + bytes,
+                }
+            }
+        }
     }
 }
 
@@ -57,149 +65,83 @@ fn packed_word(m: u32, p: u32) -> u16
     (t % 256 + t / 65536 % 256 * 256) as u16
 }
 
-// Bytes p and p + 2 of n macropixels.
-fn gather_packed(out: &mut [u16], n: usize, src: &[u8], from: usize, p: u32)
-    requires { (p ≤ 1) × (n ≤ length out.old) × TexelsIn (length src.now) from 4 4 n }
-    ensures { Gathered src.now (from + p) (from + p + 2) 4 n out.new }
+// Bytes p and p + 2 of macropixels.
+fn gather_packed(out: &mut [u16], src: &[u8], from: usize, p: u32)
+    requires { (p ≤ 1) × TexelsIn (length src.now) from 4 4 (length out.old) }
+    ensures { Gathered src.now (from + p) (from + p + 2) 4 (length out.old) out.new }
 {
     let mut at = from;
-    for word in &mut out[..n] {
+    for word in out {
         *word = packed_word(words::le32(&src[at..]), p);
         at += 4;
     }
 }
 
-// n times two bytes in a row.
-fn gather_words(out: &mut [u16], n: usize, src: &[u8], from: usize)
-    requires { (n ≤ length out.old) × TexelsIn (length src.now) from 2 2 n }
-    ensures { Gathered src.now from (from + 1) 2 n out.new }
+// Two bytes in a row each.
+fn gather_words(out: &mut [u16], src: &[u8], from: usize)
+    requires { TexelsIn (length src.now) from 2 2 (length out.old) }
+    ensures { Gathered src.now from (from + 1) 2 (length out.old) out.new }
 {
     let mut at = from;
-    for word in &mut out[..n] {
+    for word in out {
         *word = words::le16(&src[at..]);
         at += 2;
     }
 }
 
-// n times a byte of one plane and one of another.
-fn gather_planes(out: &mut [u16], n: usize, src: &[u8], first: usize, second: usize)
-    requires { (n ≤ length out.old) × TexelsIn (length src.now) first 1 1 n × TexelsIn (length src.now) second 1 1 n }
-    ensures { Gathered src.now first second 1 n out.new }
+// A byte of one plane and one of another each.
+#[tactic(auto, using(crate::specs::Gathered::gather_next, blocks::specs::Blocks::once_more))]
+fn gather_planes(out: &mut [u16], src: &[u8], first: usize, second: usize)
+    requires { TexelsIn (length src.now) first 1 1 (length out.old) × TexelsIn (length src.now) second 1 1 (length out.old) }
+    ensures { Gathered src.now first second 1 (length out.old) out.new }
 {
     let mut a = first;
     let mut b = second;
-    for word in &mut out[..n] {
+    for word in out {
         *word = src[a] as u16 + src[b] as u16 * 256;
         a += 1;
         b += 1;
     }
 }
 
-// Lumas and chromas change places between the two formats, so neither of these is the other with another constant.
+// Lumas and chromas change places between the two packed formats, so neither of these is the other with another constant.
 
-// The lumas of n pairs of macropixels.
-fn packed_lumas(
-    lumas: &mut [u16],
-    n: usize,
-    src: &[u8],
-    format: PackedYuv,
-    luma: usize,
-    u: usize,
-    v: usize,
-)
-    requires { (n ≤ length lumas.old) × Arranged (packed_yuv_code format) luma u v × PairsIn (length src.now) (packed_yuv_code format) luma u v n }
-    ensures { Gathered src.now luma (luma + luma_gap (packed_yuv_code format)) (luma_step (packed_yuv_code format)) n lumas.new }
+// The lumas of pairs, the first of which lies at `at`.
+#[tactic(auto, using(crate::proofs::Variants::yuy2_lumas, crate::proofs::Variants::uyvy_lumas, crate::proofs::Variants::yv12_lumas, crate::proofs::Variants::nv12_lumas))]
+fn gather_lumas(lumas: &mut [u16], src: &[u8], at: PairPlaces)
+    requires { PlacesIn (length src.now) at (length lumas.old) }
+    ensures { LumasGathered src.now at (length lumas.old) lumas.new }
 {
-    match format {
-        PackedYuv::YUY2 => gather_packed(lumas, n, src, luma, 0),
-        PackedYuv::UYVY => gather_packed(lumas, n, src, u, 1),
+    match at {
+        PairPlaces::Yuy2 { macropixel } => gather_packed(lumas, src, macropixel, 0),
+        PairPlaces::Uyvy { macropixel } => gather_packed(lumas, src, macropixel, 1),
+        PairPlaces::Yv12 { luma, .. } => gather_words(lumas, src, luma),
+        PairPlaces::Nv12 { luma, .. } => gather_words(lumas, src, luma),
     }
 }
 
-// The lumas of n pairs.
-fn gather_lumas(
-    lumas: &mut [u16],
-    n: usize,
-    src: &[u8],
-    format: YuvFormat,
-    luma: usize,
-    u: usize,
-    v: usize,
-)
-    requires { (n ≤ length lumas.old) × Arranged (yuv_code format) luma u v × PairsIn (length src.now) (yuv_code format) luma u v n }
-    ensures { Gathered src.now luma (luma + luma_gap (yuv_code format)) (luma_step (yuv_code format)) n lumas.new }
+// Their U and V.
+#[tactic(auto, using(crate::proofs::Variants::yuy2_chromas, crate::proofs::Variants::uyvy_chromas, crate::proofs::Variants::yv12_chromas, crate::proofs::Variants::nv12_chromas))]
+fn gather_chromas(chromas: &mut [u16], src: &[u8], at: PairPlaces)
+    requires { PlacesIn (length src.now) at (length chromas.old) }
+    ensures { ChromasGathered src.now at (length chromas.old) chromas.new }
 {
-    match format {
-        YuvFormat::Packed(packed) => packed_lumas(lumas, n, src, packed, luma, u, v),
-        YuvFormat::Planar(_) => gather_words(lumas, n, src, luma),
-    }
-}
-
-// The U and V of n pairs of macropixels.
-fn packed_chromas(
-    chromas: &mut [u16],
-    n: usize,
-    src: &[u8],
-    format: PackedYuv,
-    luma: usize,
-    u: usize,
-    v: usize,
-)
-    requires { (n ≤ length chromas.old) × Arranged (packed_yuv_code format) luma u v × PairsIn (length src.now) (packed_yuv_code format) luma u v n }
-    ensures { Gathered src.now u v (chroma_step (packed_yuv_code format)) n chromas.new }
-{
-    match format {
-        PackedYuv::YUY2 => gather_packed(chromas, n, src, luma, 1),
-        PackedYuv::UYVY => gather_packed(chromas, n, src, u, 0),
-    }
-}
-
-// The U and V of n pairs of a planar frame.
-fn planar_chromas(
-    chromas: &mut [u16],
-    n: usize,
-    src: &[u8],
-    format: PlanarYuv,
-    luma: usize,
-    u: usize,
-    v: usize,
-)
-    requires { (n ≤ length chromas.old) × Arranged (planar_yuv_code format) luma u v × PairsIn (length src.now) (planar_yuv_code format) luma u v n }
-    ensures { Gathered src.now u v (chroma_step (planar_yuv_code format)) n chromas.new }
-{
-    match format {
-        PlanarYuv::YV12 => gather_planes(chromas, n, src, u, v),
-        PlanarYuv::NV12 => gather_words(chromas, n, src, u),
-    }
-}
-
-// The U and V of n pairs.
-fn gather_chromas(
-    chromas: &mut [u16],
-    n: usize,
-    src: &[u8],
-    format: YuvFormat,
-    luma: usize,
-    u: usize,
-    v: usize,
-)
-    requires { (n ≤ length chromas.old) × Arranged (yuv_code format) luma u v × PairsIn (length src.now) (yuv_code format) luma u v n }
-    ensures { Gathered src.now u v (chroma_step (yuv_code format)) n chromas.new }
-{
-    match format {
-        YuvFormat::Packed(packed) => packed_chromas(chromas, n, src, packed, luma, u, v),
-        YuvFormat::Planar(planar) => planar_chromas(chromas, n, src, planar, luma, u, v),
+    match at {
+        PairPlaces::Yuy2 { macropixel } => gather_packed(chromas, src, macropixel, 1),
+        PairPlaces::Uyvy { macropixel } => gather_packed(chromas, src, macropixel, 0),
+        PairPlaces::Yv12 { u, v, .. } => gather_planes(chromas, src, u, v),
+        PairPlaces::Nv12 { chroma, .. } => gather_words(chromas, src, chroma),
     }
 }
 
 // ---- colours
 
-// The words of n pairs.
-fn colour_pairs(block: &mut [u32], n: usize, lumas: &[u16], chromas: &[u16], lines: Lines)
-    requires { (2 * n ≤ length block.old) × (n ≤ length lumas.now) × (n ≤ length chromas.now) × Sized lines }
-    ensures { Coloured lines lumas.now chromas.now n block.old block.new }
+// The words of as many pairs as there are words of lumas.
+fn colour_pairs(block: &mut [u32], lumas: &[u16], chromas: &[u16], lines: SizedLines)
+    requires { (2 * length lumas.now ≤ length block.old) × (length lumas.now ≤ length chromas.now) }
+    ensures { Coloured lines.lines lumas.now chromas.now (length lumas.now) block.old block.new }
 {
-    for i in 0..n {
+    for i in 0..lumas.len() {
         let luma = lumas[i];
         let chroma = chromas[i];
         let samples = Samples {
@@ -214,23 +156,16 @@ fn colour_pairs(block: &mut [u32], n: usize, lumas: &[u16], chromas: &[u16], lin
     }
 }
 
-// The words of n pairs, at most 32, at the front of `block`. `luma`, `u` and `v` are where the first pair's samples lie.
-pub fn read_pairs(
-    block: &mut [u32],
-    n: usize,
-    src: &[u8],
-    format: YuvFormat,
-    lines: Lines,
-    luma: usize,
-    u: usize,
-    v: usize,
-)
-    requires { (n ≤ 32) × (2 * n ≤ length block.old) × Sized lines × Arranged (yuv_code format) luma u v × PairsIn (length src.now) (yuv_code format) luma u v n }
-    ensures { PairsRead lines src.now (yuv_code format) luma u v n block.old block.new }
+// The words of as many pairs as `block` has room for, at most 32; the first pair's samples lie at `at`.
+pub fn read_pairs(block: &mut [u32], src: &[u8], at: PairPlaces, lines: SizedLines)
+    requires { (length block.old / 2 ≤ 32) × PlacesIn (length src.now) at (length block.old / 2) }
+    ensures { PairsRead lines.lines src.now (format_of at) (luma_at at) (u_at at) (v_at at) (length block.old / 2) block.old block.new }
 {
     let mut lumas = [0u16; 32];
     let mut chromas = [0u16; 32];
-    gather_lumas(&mut lumas[..], n, src, format, luma, u, v);
-    gather_chromas(&mut chromas[..], n, src, format, luma, u, v);
-    colour_pairs(block, n, &lumas[..], &chromas[..], lines);
+    let lumas = &mut lumas[..block.len() / 2];
+    let chromas = &mut chromas[..block.len() / 2];
+    gather_lumas(lumas, src, at);
+    gather_chromas(chromas, src, at);
+    colour_pairs(block, lumas, chromas, lines);
 }

@@ -4,7 +4,7 @@
 use Rattle.std.specs.Prelude.{◌≡◌, ℕ, ◌+◌, ◌*◌, ◌/◌, ◌≤◌, ◌<◌, ℤ, pos, negsuc, ◌-ℤ◌, ◌*ℤ◌}
 use Rattle.std.proofs.Common.{sym, ap, ◌∙◌, ⊎_elim, arith, add-mul, mul_assoc, mul_comm, mul-le-mul, lit<}
 use Rattle.words.specs.Integers.{floor_div, up, dn, up_pos, dn_pos, one_zero, difference, times_up, times_dn, floor_low, floor_high}
-use Rattle.words.specs.Ranges.{minus, wider}
+use Rattle.std.proofs.lemmas.Int.{ints}
 use Rattle.stretch_rect.specs.Yuv.{luma_part, chroma_part, luma_exact, chroma_exact}
 use Rattle.yuv_parts.specs.Parts.{PartSize}
 
@@ -74,4 +74,4 @@ unfolding chroma_base_of
 chroma_base_small n g hn hg = omega (arith, mul-le-mul hn hg)
 
 pub line_small : (g b c : ℕ) → c < 256 → g ≤ 262143 → b ≤ 67108864 → PartSize (on_line g b c)
-line_small g b c hc hg hb = let l : c ≤ 255 = omega (arith, hc) in wider (minus (c * g) b) hb (omega (arith, mul-le-mul l hg))
+line_small g b c hc hg hb = let l : c ≤ 255 = omega (arith, hc) in omega (arith, ints, mul-le-mul l hg)

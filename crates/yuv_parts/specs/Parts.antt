@@ -1,14 +1,13 @@
 -- The colour that five parts make, in 65536ths: added, rounded and clamped. Assumes nothing.
-use Rattle.std.specs.Prelude.{◌≡◌, refl, ℕ, ℤ, ◌+ℤ◌, ◌-ℤ◌}
+use Rattle.std.specs.Prelude.{◌≡◌, refl, ℕ, ◌≤◌, ℤ, ◌+ℤ◌, ◌-ℤ◌, unsigned_abs}
 use Rattle.words.specs.Integers.{clamp_to}
-use Rattle.words.specs.Ranges.{Within}
 use Rattle.yuv_sets.specs.declared.YuvSet.{YuvSet}
 use Rattle.stretch_rect.specs.declared.Rgb.{Rgb}
 use Rattle.stretch_rect.specs.Yuv.{luma_part, chroma_part, nearest_whole, rgb_of, red_rounded, green_rounded, blue_rounded}
 
 -- a part is no further from 0 than 1024
 abbrev pub PartSize : ℤ → Type 0
-PartSize = Within 67108864 67108864
+PartSize z = unsigned_abs z ≤ 67108864
 
 -- red is luma and V's part, green is luma less U's part and V's part, blue is luma and U's part; each is rounded to the nearest whole number, a half up, and clamped to a byte
 unfoldable pub joined : (luma v_red u_green v_green u_blue : ℤ) → Rgb

@@ -1,9 +1,9 @@
 -- Parts that a machine of w bits adds, takes away, rounds and clamps: what each step asks, and what it gives. Assumes nothing.
-use Rattle.std.specs.Prelude.{◌≡◌, refl, ℕ, ◌+◌, ◌^◌, ◌<◌, ◌≤◌, ℤ, pos, negsuc, ◌+ℤ◌, ◌-ℤ◌}
-use Rattle.std.proofs.Common.{sym, subst, arith}
-use Rattle.std.specs.Int.Signed.{shr_z}
-use Rattle.std.specs.Int.{Width, int_min, int_max}
-use mir.Val.{hbits, SFits, to_z, of_z}
+use Rattle.std.specs.Prelude.{◌≡◌, refl, ℕ, ◌+◌, ◌^◌, ◌<◌, ◌≤◌, ℤ, pos, negsuc, ◌+ℤ◌, ◌-ℤ◌, true, false, T, nat_abs}
+use Rattle.std.proofs.Common.{sym, subst, arith, SFits, to_z, of_z, ltb-true, ltb-false, Fits}
+use Rattle.std.specs.Int.Signed.{lt_z, non_neg, shr_z}
+use Rattle.std.specs.Int.{Width, int_min, int_max, w8}
+use mir.Val.{hbits}
 use Rattle.words.specs.Integers.{floor_div, clamp_to}
 use Rattle.yuv_parts.specs.Widths.{fit, asks, gives, shifted, kept}
 use Rattle.words.specs.Ranges.{Within, wider, plus, less, of_pos}
@@ -94,3 +94,22 @@ pub byte_clamp : (z : ℤ) → (int_max (pos 0) (int_min z (pos 255)) ≡ pos (c
 unfolding clamp_to
 byte_clamp (pos n) = (grind arith, omega arith)
 byte_clamp (negsuc n) = (refl, omega arith)
+
+-- ---- a clamp to a byte by two tests
+pub below : (z : ℤ) → lt_z z (pos 0) ≡ true → 0 ≡ clamp_to 255 z
+unfolding clamp_to
+below (pos n) e = let h : n < 0 = ltb-true n 0 e in omega arith
+below (negsuc n) e = refl
+
+pub between : (z : ℤ) → lt_z z (pos 0) ≡ false → lt_z z (pos 255) ≡ true → T (non_neg z) × Fits w8 (nat_abs z) × (nat_abs z ≡ clamp_to 255 z)
+unfolding clamp_to
+between (pos n) d e = let h : n < 255 = ltb-true n 255 e in (tt, record { fits = omega arith }, omega arith)
+between (negsuc n) d e = absurd (no d)
+  where
+    no : true ≡ false → ⊥
+    no q = subst T q tt
+
+pub above : (z : ℤ) → lt_z z (pos 255) ≡ false → 255 ≡ clamp_to 255 z
+unfolding clamp_to
+above (pos n) e = let h : 255 ≤ n = ltb-false n 255 e in omega arith
+above (negsuc n) e = absurd (subst T e tt)

@@ -2,10 +2,10 @@
 -- `asks` answers what an operation asks and `gives` says what it gives, from what its operands are: Machine's laws of 64 bits, at every
 -- width. Assumes nothing.
 use Rattle.std.specs.Prelude.{◌≡◌, ℕ, ◌<◌, ◌≤◌, ◌^◌, ℤ, pos, T, leb, ltb}
-use Rattle.std.proofs.Common.{sym, ap, ◌∙◌, subst, to_z-of_z, le_trans, lt_of_le_of_lt, leb→le, ltb→lt}
+use Rattle.std.proofs.Common.{sym, ap, ◌∙◌, subst, to_z-of_z, le_trans, lt_of_le_of_lt, leb→le, ltb→lt, SFits, to_z, of_z}
 use Rattle.std.specs.Int.Signed.{shr_z, mag_shr}
 use Rattle.std.specs.Int.{Width}
-use mir.Val.{hbits, SFits, to_z, of_z}
+use mir.Val.{hbits}
 use mir.ValLaws.{sfits_le}
 use Rattle.std.proofs.Math.Facts.{to_z_pos}
 use Rattle.words.specs.Integers.{up, dn, mag_below}

@@ -3,28 +3,19 @@
 // version, see NOTICE).
 #![tactic(auto)]
 
-ghost use Rattle.std.specs.Prelude.{◌≡◌};
+ghost use Rattle.std.specs.Prelude.{◌≡◌, ◌≤◌, unsigned_abs};
 ghost use Rattle.words.specs.Integers.{clamp_to};
 ghost use Rattle.stretch_rect.specs.Yuv.{nearest_whole};
-ghost use Rattle.yuv_parts.specs.Sums.{Joined};
-ghost use Rattle.yuv_parts.specs.Parts.{PartSize, joined};
 
-use stretch_rect::Rgb;
+mod parts;
 
+pub use parts::Parts;
+
+// The nearest byte to a channel in 65536ths.
+#[tactic(auto, using(std::proofs::lemmas::Int::ints, crate::proofs::Clamps::clamped), unfolding(stretch_rect::specs::Yuv::nearest_whole))]
 fn to8(channel: i32) -> u8
-    requires { Joined 67108864 channel }
+    requires { unsigned_abs channel ≤ 201326592 }
     ensures { result ≡ clamp_to 255 (nearest_whole channel) }
 {
     ((channel + 32768) >> 16).clamp(0, 255) as u8
-}
-
-// The colour that five parts make.
-pub fn from_parts(luma: i32, v_red: i32, u_green: i32, v_green: i32, u_blue: i32) -> Rgb
-    requires { PartSize luma × PartSize v_red × PartSize u_green × PartSize v_green × PartSize u_blue }
-    ensures { result ≡ joined luma v_red u_green v_green u_blue }
-{
-    let r = to8(luma + v_red);
-    let g = to8(luma - u_green - v_green);
-    let b = to8(luma + u_blue);
-    Rgb { r, g, b }
 }

@@ -3,33 +3,25 @@
 #![tactic(auto)]
 
 ghost use Rattle.std.specs.Prelude.{◌≡◌, length};
-ghost use Rattle.formats.specs.Table.{bytes_of};
 ghost use Rattle.formats.specs.Formats.{rgb_code, yuv_code};
-ghost use Rattle.yuv_sets.specs.Legal.{Legal};
 ghost use Rattle.regions.specs.Regions.{row_written};
 ghost use Rattle.regions.specs.Rows.{RowFits};
 
-use convert_reply::ConvertRegion;
-use formats::{RgbFormat, YuvFormat};
-use yuv_sets::YuvSet;
+use convert_reply::{RegionRow, YuvSource};
+use formats::RgbFormat;
 
 // A row of YUV, texel by texel: the run of all its columns.
+#[tactic(auto, using(yuv_texels::proofs::Whole::run_whole))]
 pub fn texel_row(
-    numbers: YuvSet,
     dst: &mut [u8],
     dst_format: RgbFormat,
-    to_size: usize,
     src: &[u8],
-    src_format: YuvFormat,
-    region: ConvertRegion,
-    z: usize,
-    row: usize,
+    source: YuvSource,
+    at: RegionRow,
 )
-    requires { (RowFits (length src.now) (length dst.old) (yuv_code src_format) (rgb_code dst_format) region z row) × (to_size ≡ bytes_of (rgb_code dst_format)) × Legal numbers }
-    ensures { dst.new ≡ row_written numbers src.now (yuv_code src_format) (rgb_code dst_format) region z row dst.old }
+    requires { RowFits (length src.now) (length dst.old) (yuv_code source.format) (rgb_code dst_format) at.region at.z at.row }
+    ensures { dst.new ≡ row_written source.set.numbers src.now (yuv_code source.format) (rgb_code dst_format) at.region at.z at.row dst.old }
 {
-    let width = region.width as usize;
-    yuv_texels::texel_run(
-        numbers, dst, dst_format, to_size, src, src_format, region, z, row, 0, width,
-    );
+    let width = at.region.width as usize;
+    yuv_texels::texel_run(dst, dst_format, src, source, at, 0, width);
 }

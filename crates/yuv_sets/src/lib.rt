@@ -2,9 +2,13 @@
 // the crate `stretch_rect`.
 #![tactic(auto)]
 
-ghost use Rattle.std.specs.Prelude.{◌≡◌};
+ghost use Rattle.std.specs.Prelude.{◌≡◌, is_some, IfSome};
 ghost use Rattle.yuv_sets.specs.Sets as sets;
 ghost use Rattle.yuv_sets.specs.Sets.{is_gain, is_legal, RoundedFrom};
+
+mod legal;
+
+pub use legal::LegalSet;
 
 // The numbers of a conversion: gains and offset in 65536ths, and the centre of the chroma in halves.
 #[derive(Clone, Copy)]
@@ -70,4 +74,18 @@ pub fn is_legal(numbers: YuvSet) -> bool
         && is_gain(numbers.v_to_green)
         && is_gain(numbers.u_to_blue)
         && (numbers.chroma_centre == 255 || numbers.chroma_centre == 256)
+}
+
+impl YuvSet {
+    // These numbers as a legal set, where they are legal.
+    #[tactic(auto, using(crate::specs::Legal::legal))]
+    pub fn legal(self) -> Option<LegalSet>
+        ensures found { is_some result ≡ is_legal self }
+        ensures numbers { IfSome result (λ s. s.numbers ≡ self) }
+    {
+        if !is_legal(self) {
+            return None;
+        }
+        Some(LegalSet { numbers: self })
+    }
 }

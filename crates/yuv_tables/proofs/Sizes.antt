@@ -1,8 +1,5 @@
 -- Every part of a byte by bt601 is small enough to be added in 32 bits. Assumes nothing.
-use mathlib.Core.Path.{sym, subst}
-use Prim.Native.Nat.{ℕ, ◌<◌, ◌≤◌}
-use lib.Dec.{lit≤}
-use lib.IntN.{ℤ}
+use Rattle.std.proofs.Common.{sym, subst, ℕ, ◌<◌, ◌≤◌, lit≤, ℤ}
 use Rattle.yuv_sets.specs.Sets.{bt601}
 use Rattle.stretch_rect.specs.Yuv.{luma_part, chroma_part}
 use Rattle.yuv_parts.specs.Parts.{PartSize}

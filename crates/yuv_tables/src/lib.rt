@@ -4,11 +4,11 @@
 
 ghost use Rattle.std.specs.Prelude.{◌≡◌, ℕ, ℤ, T};
 ghost use Rattle.yuv_sets.specs.Sets.{bt601};
-ghost use Rattle.yuv_parts.specs.Parts.{PartSize};
 ghost use Rattle.yuv_tables.specs.Entries.{follows};
 ghost use Rattle.stretch_rect.specs.Yuv.{rgb_of, RgbNear, decimal_unit, decimal_slack, red_decimal, green_decimal, blue_decimal};
 
 use stretch_rect::Rgb;
+use yuv_parts::Parts;
 
 // The scaled luma.
 const LUMA: [i32; 256] = [
@@ -167,8 +167,9 @@ const U_TO_BLUE: [i32; 256] = [
 ];
 
 // The entry of a sample in a table that follows a rule.
+#[tactic(auto, using(std::proofs::lemmas::Int::ints, crate::specs::Entries::entry_is))]
 fn entry(table: &[i32; 256], sample: u8) -> i32
-    ensures { (rule : ℕ → ℤ) → T (follows rule table.now) → PartSize (rule sample) → result ≡ rule sample }
+    ensures { (rule : ℕ → ℤ) → T (follows rule table.now) → result ≡ rule sample }
 {
     table[sample as usize]
 }
@@ -178,10 +179,12 @@ pub fn yuv_to_rgb8_by_tables(luma: u8, cb: u8, cr: u8) -> Rgb
     ensures is { result ≡ rgb_of bt601 luma cb cr }
     ensures near { RgbNear decimal_unit decimal_slack (red_decimal luma cb cr) (green_decimal luma cb cr) (blue_decimal luma cb cr) result }
 {
-    let l = entry(&LUMA, luma);
-    let v_red = entry(&V_TO_RED, cr);
-    let u_green = entry(&U_TO_GREEN, cb);
-    let v_green = entry(&V_TO_GREEN, cr);
-    let u_blue = entry(&U_TO_BLUE, cb);
-    yuv_parts::from_parts(l, v_red, u_green, v_green, u_blue)
+    let parts = Parts {
+        luma: entry(&LUMA, luma),
+        v_red: entry(&V_TO_RED, cr),
+        u_green: entry(&U_TO_GREEN, cb),
+        v_green: entry(&V_TO_GREEN, cr),
+        u_blue: entry(&U_TO_BLUE, cb),
+    };
+    parts.colour()
 }

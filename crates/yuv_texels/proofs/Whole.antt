@@ -1,7 +1,6 @@
 -- A row is the run of all its columns, and a YUV format is no source of codes. Assumes nothing.
-use Rattle.std.specs.Prelude.{◌≡◌, Bool, true, false, List, ℕ, ◌+◌}
-use Rattle.std.proofs.Common.{refl, sym, ap, ◌∙◌, zero-add}
-use mathlib.Core.Bool.{◌||◌, false≢true}
+use Rattle.std.proofs.Common.{◌≡◌, Bool, true, false, List, ℕ, ◌+◌, refl, sym, ap, ◌∙◌, zero-add, ◌||◌}
+use mathlib.Core.Bool.{false≢true}
 use Rattle.words.specs.Iterate.{iterate_same}
 use Rattle.formats.specs.Classes.{is_planar_yuv, is_yuv, is_code_source, is_lane_source}
 use Rattle.formats.specs.Listed.{lane_only, not_lane}

@@ -4,99 +4,91 @@
 #![tactic(auto)]
 
 ghost use Rattle.std.specs.Prelude.{◌≡◌, true, ◌+◌, ◌≤◌, ◌%◌, ◌/◌, eqb, length, take};
-ghost use Rattle.formats.specs.Table.{bytes_of};
 ghost use Rattle.formats.specs.Formats.{rgb_code, packed_yuv_code, planar_yuv_code, yuv_code};
-ghost use Rattle.planar_yuv.specs.Answers as layouts;
 ghost use Rattle.places.specs.Places.{layout_places, places_at, places_in, bytes_at};
 ghost use Rattle.places.specs.Planar.{LayoutFor};
-ghost use Rattle.yuv_sets.specs.Legal.{Legal};
 ghost use Rattle.regions.specs.Regions.{texel_of, texel_at};
 ghost use Rattle.regions.specs.Rows.{RowFits};
 ghost use Rattle.yuv_texels.specs.Runs.{run_written};
 
-use convert_reply::ConvertRegion;
+use convert_reply::{RegionRow, YuvSource};
 use formats::{PackedYuv, PlanarYuv, RgbFormat, YuvFormat};
-use planar_yuv::PlanarYuvLayout;
+use places::{Pitches, Spot};
+use planar_yuv::{PlanarTexel, PlanarYuvLayout};
 use texels::Texel;
-use yuv_sets::YuvSet;
+use yuv_sets::LegalSet;
 
-fn fetch_planar(
-    numbers: YuvSet,
-    src: &[u8],
-    format: PlanarYuv,
-    layout: PlanarYuvLayout,
-    y: usize,
-    x: usize,
-) -> Texel
-    requires { (layouts.Legal layout) × (places_in (length src.now) (layout_places (planar_yuv_code format) layout.pitch layout.luma_rows y x) ≡ true) × Legal numbers }
-    ensures { result ≡ texel_of numbers (planar_yuv_code format) (eqb (x % 2) 1) (bytes_at src.now (layout_places (planar_yuv_code format) layout.pitch layout.luma_rows y x)) }
+// A texel of a planar source.
+#[tactic(auto, using(crate::proofs::Fetched::can_read, crate::proofs::Fetched::planar_colour))]
+fn fetch_planar(set: LegalSet, src: &[u8], format: PlanarYuv, texel: PlanarTexel) -> Texel
+    requires { places_in (length src.now) (layout_places (planar_yuv_code format) texel.layout.pitch texel.layout.luma_rows texel.y texel.x) ≡ true }
+    ensures { result ≡ texel_of set.numbers (planar_yuv_code format) (eqb (texel.x % 2) 1) (bytes_at src.now (layout_places (planar_yuv_code format) texel.layout.pitch texel.layout.luma_rows texel.y texel.x)) }
 {
-    regions::opaque(stretch_rect::decode_planar_yuv(numbers, format, src, layout, x, y))
+    regions::opaque(stretch_rect::decode_planar_yuv(set, format, src, texel))
 }
 
 // A texel of a macropixel, which is lent from its first byte on.
-fn fetch_packed(numbers: YuvSet, macropixel: &[u8], format: PackedYuv, x: usize) -> Texel
-    requires { (4 ≤ length macropixel.now) × Legal numbers }
-    ensures { result ≡ texel_of numbers (packed_yuv_code format) (eqb (x % 2) 1) (take 4 macropixel.now) }
+#[tactic(auto, using(regions::specs::Fetch::packed_opaque, formats::specs::Formats::packed_yuv_is))]
+fn fetch_packed(set: LegalSet, macropixel: &[u8], format: PackedYuv, x: usize) -> Texel
+    requires { 4 ≤ length macropixel.now }
+    ensures { result ≡ texel_of set.numbers (packed_yuv_code format) (eqb (x % 2) 1) (take 4 macropixel.now) }
 {
-    regions::opaque(stretch_rect::decode_packed_yuv(numbers, format, macropixel, x % 2 == 1))
+    regions::opaque(stretch_rect::decode_packed_yuv(set, format, macropixel, x % 2 == 1))
 }
 
-// The texel at slice z, row y and column x; `layout` is a planar source's.
+// A texel of a source; `layout` is a planar source's.
+#[tactic(auto, using(crate::proofs::Fetched::planar_in, crate::proofs::Fetched::planar_fetched, crate::proofs::Fetched::packed_in, crate::proofs::Fetched::packed_fetched))]
 fn fetch(
-    numbers: YuvSet,
+    source: YuvSource,
     src: &[u8],
-    format: YuvFormat,
     layout: PlanarYuvLayout,
-    pitch: usize,
-    slice_pitch: usize,
-    z: usize,
-    y: usize,
-    x: usize,
+    pitches: Pitches,
+    at: Spot,
 ) -> Texel
-    requires { (LayoutFor (yuv_code format) pitch (slice_pitch / pitch) layout) × (places_in (length src.now) (places_at (yuv_code format) pitch slice_pitch z y x) ≡ true) × Legal numbers }
-    ensures { result ≡ texel_at numbers src.now (yuv_code format) pitch slice_pitch z y x }
+    requires { (LayoutFor (yuv_code source.format) pitches.row (pitches.slice / pitches.row) layout) × (places_in (length src.now) (places_at (yuv_code source.format) pitches.row pitches.slice at.z at.y at.x) ≡ true) }
+    ensures { result ≡ texel_at source.set.numbers src.now (yuv_code source.format) pitches.row pitches.slice at.z at.y at.x }
 {
-    match format {
-        YuvFormat::Planar(planar) => fetch_planar(numbers, src, planar, layout, y, x),
+    match source.format {
+        YuvFormat::Planar(planar) => {
+            let texel = PlanarTexel {
+                layout,
+                x: at.x,
+                y: at.y,
+            };
+            fetch_planar(source.set, src, planar, texel)
+        }
         YuvFormat::Packed(packed) => {
-            let at = z * slice_pitch + y * pitch + x / 2 * 4;
-            fetch_packed(numbers, &src[at..], packed, x)
+            let start = pitches.start_of(4, Spot { x: at.x / 2, ..at });
+            fetch_packed(source.set, &src[start..], packed, at.x)
         }
     }
 }
 
+// That a row fits both buffers (`RowFits`) is asked of the caller, here and in the other rows of a region, and is no field of a type: it
+// speaks of the lengths of what is lent, and a struct would have to hold the buffers, one of which is written.
+
 // `count` texels of a row of YUV, from column `first` of it on: the source's places are worked out afresh for each, and the destination's
 // offset is carried.
+#[tactic(auto, using(crate::proofs::Steps::texel_ends, crate::proofs::Steps::run_none), unfolding(regions::specs::Regions::to_at))]
 pub fn texel_run(
-    numbers: YuvSet,
     dst: &mut [u8],
     dst_format: RgbFormat,
-    to_size: usize,
     src: &[u8],
-    src_format: YuvFormat,
-    region: ConvertRegion,
-    z: usize,
-    row: usize,
+    source: YuvSource,
+    at: RegionRow,
     first: usize,
     count: usize,
 )
-    requires { (RowFits (length src.now) (length dst.old) (yuv_code src_format) (rgb_code dst_format) region z row) × (to_size ≡ bytes_of (rgb_code dst_format)) × Legal numbers × (first + count ≤ region.width) }
-    ensures { dst.new ≡ run_written numbers src.now (yuv_code src_format) (rgb_code dst_format) region z row first count dst.old }
+    requires { (RowFits (length src.now) (length dst.old) (yuv_code source.format) (rgb_code dst_format) at.region at.z at.row) × (first + count ≤ at.region.width) }
+    ensures { dst.new ≡ run_written source.set.numbers src.now (yuv_code source.format) (rgb_code dst_format) at.region at.z at.row first count dst.old }
 {
-    let sx = region.src_x as usize;
-    let dx = region.dst_x as usize;
-    let sy = region.src_y as usize + row;
-    let dy = region.dst_y as usize + row;
-    let sp = region.src_pitch;
-    let dp = region.dst_pitch;
-    let ss = region.src_slice_pitch;
-    let ds = region.dst_slice_pitch;
-    let layout = places::source_layout(src_format, sp, ss);
-    let mut to = z * ds + dy * dp + (dx + first) * to_size;
+    let pitches = at.region.source_pitches();
+    let layout = places::source_layout(source.format, pitches);
+    let to_size = dst_format.bytes_per_texel();
+    let rows = at.region.destination_pitches();
+    let mut to = rows.start_of(to_size, at.destination_spot(first));
     for i in 0..count {
-        let x = sx + (first + i);
-        let t = fetch(numbers, src, src_format, layout, sp, ss, z, sy, x);
+        let t = fetch(source, src, layout, pitches, at.source_spot(first + i));
         texel_words::encode_rgb_pixel(dst_format, t, &mut dst[to..]);
         to += to_size;
     }

@@ -1,8 +1,5 @@
 -- `binary16::f32_to_f16_bits` meets its contract: the code by the pattern's range, with the sign above it. Assumes nothing.
-use mathlib.Core.Path.{◌≡◌, refl, sym, ap, ◌∙◌, subst}
-use Prim.Native.Nat.{ℕ, ◌+◌, ◌*◌, ◌/◌, ◌%◌, ◌<◌, ◌^◌}
-use native.Mathlib.Nat.{add-zero}
-use native.Mathlib.Omega.{arith}
+use Rattle.std.proofs.Common.{◌≡◌, refl, sym, ap, ◌∙◌, subst, ℕ, ◌+◌, ◌*◌, ◌/◌, ◌%◌, ◌<◌, ◌^◌, add-zero, arith}
 use lib.Ieee.{binary32, of_bits}
 use Rattle.binary16.specs.Half.{code_of, half_of, HalfOf, nearest_half}
 use Rattle.binary16.proofs.HalfLaws.{code_small, half_of_lem}

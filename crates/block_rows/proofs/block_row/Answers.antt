@@ -1,157 +1,74 @@
 -- `block_rows::block_row` meets its contract: block by block, with both offsets carried. Assumes nothing.
-use mathlib.Core.Path.{◌≡◌, refl, sym, ap, ◌∙◌, subst}
-use Prim.Native.Nat.{ℕ, ◌+◌, ◌*◌, ◌-◌, ◌≤◌, ◌<◌, min}
-use native.Mathlib.Nat.{le_antisymm}
-use native.Mathlib.Omega.{arith}
-use lib.ListN.{length}
-use Rattle.words.specs.Iterate.{iterate, iterate_zero}
-use Rattle.formats.specs.Table.{parts_of, bytes_of}
-use Rattle.formats.specs.Formats.{rgb_code, lane_source_code, lane_source_is}
-use Rattle.yuv_sets.specs.Sets.{bt601}
-use Rattle.blocks.specs.Blocks.{word_of}
-use Rattle.regions.specs.Regions.{to_at, source_texel, written, row_written}
-use Rattle.regions.specs.Fetch.{any_set}
-use Rattle.regions.specs.Carried.{CarriedIn, read_room, write_room, block_rows, block_texels, block_carried, first_carried, row_read, row_write, lying_row}
-use borrow.Author.Rules.{rules}
+use Rattle.std.proofs.Common.{◌≡◌, refl, sym, ◌∙◌, le_antisymm, arith, length-append, length-drop, rules}
+use Rattle.words.specs.Iterate.{iterate_zero}
+use Rattle.formats.specs.Formats.{lane_source_code, lane_source_is}
+use Rattle.block_rows.proofs.Reached.{part_of, first_from, first_to, whole, lies, rewritten, reads, writes, further}
 use Rattle.block_rows.proofs.block_row.Goals as goal
 
-pub overflow_mul-first_from : goal.overflow_mul-first_from
-overflow_mul-first_from c =
-    let from_fits = row_read bt601 c.args.src.now _ _ _ _ _ _ c.requires.0 (lane_source_is c.args.src_format) _ _ c.requires.1 c.requires.2 in
-    omega (arith, from_fits, c.well_formed.1.1.1.1.0)
+pub start_of-first_from-requires : goal.start_of-first_from-requires
+start_of-first_from-requires c =
+    let p = c.source_pitches-from_pitches.ensures in
+    let q = c.source_spot.ensures in
+    let room = first_from c.args.src.now c.requires.0 (lane_source_is c.args.source.format) p.row p.slice c.args.source.sized q.z q.y q.x in
+    omega (arith, room)
 
-pub overflow_mul-first_from-2 : goal.overflow_mul-first_from-2
-overflow_mul-first_from-2 c =
-    let from_fits = row_read bt601 c.args.src.now _ _ _ _ _ _ c.requires.0 (lane_source_is c.args.src_format) _ _ c.requires.1 c.requires.2 in
-    omega (arith, from_fits, c.well_formed.1.1.1.1.0)
-
-pub overflow_add-first_from : goal.overflow_add-first_from
-overflow_add-first_from c =
-    let from_fits = row_read bt601 c.args.src.now _ _ _ _ _ _ c.requires.0 (lane_source_is c.args.src_format) _ _ c.requires.1 c.requires.2 in
-    omega (arith, from_fits, c.well_formed.1.1.1.1.0)
-
-pub overflow_mul-first_from-3 : goal.overflow_mul-first_from-3
-overflow_mul-first_from-3 c =
-    let from_fits = row_read bt601 c.args.src.now _ _ _ _ _ _ c.requires.0 (lane_source_is c.args.src_format) _ _ c.requires.1 c.requires.2 in
-    omega (arith, from_fits, c.well_formed.1.1.1.1.0)
-
-pub overflow_add-first_from-2 : goal.overflow_add-first_from-2
-overflow_add-first_from-2 c =
-    let from_fits = row_read bt601 c.args.src.now _ _ _ _ _ _ c.requires.0 (lane_source_is c.args.src_format) _ _ c.requires.1 c.requires.2 in
-    omega (arith, from_fits, c.well_formed.1.1.1.1.0)
-
-pub overflow_mul-first_to : goal.overflow_mul-first_to
-overflow_mul-first_to c =
-    let to_fits = row_write bt601 c.args.src.now _ _ _ _ _ _ c.requires.0 (lane_source_is c.args.src_format) _ _ c.requires.1 c.requires.2 in
-    omega (arith, to_fits)
-
-pub overflow_mul-first_to-2 : goal.overflow_mul-first_to-2
-overflow_mul-first_to-2 c =
-    let to_fits = row_write bt601 c.args.src.now _ _ _ _ _ _ c.requires.0 (lane_source_is c.args.src_format) _ _ c.requires.1 c.requires.2 in
-    omega (arith, to_fits)
-
-pub overflow_add-first_to : goal.overflow_add-first_to
-overflow_add-first_to c =
-    let to_fits = row_write bt601 c.args.src.now _ _ _ _ _ _ c.requires.0 (lane_source_is c.args.src_format) _ _ c.requires.1 c.requires.2 in
-    omega (arith, to_fits)
-
-pub overflow_mul-first_to-3 : goal.overflow_mul-first_to-3
-overflow_mul-first_to-3 c =
-    let to_fits = row_write bt601 c.args.src.now _ _ _ _ _ _ c.requires.0 (lane_source_is c.args.src_format) _ _ c.requires.1 c.requires.2 in
-    omega (arith, to_fits)
-
-pub overflow_add-first_to-2 : goal.overflow_add-first_to-2
-overflow_add-first_to-2 c =
-    let to_fits = row_write bt601 c.args.src.now _ _ _ _ _ _ c.requires.0 (lane_source_is c.args.src_format) _ _ c.requires.1 c.requires.2 in
-    omega (arith, to_fits)
+pub start_of-first_to-requires : goal.start_of-first_to-requires
+start_of-first_to-requires c =
+    let p = c.destination_pitches-to_pitches.ensures in
+    let q = c.destination_spot.ensures in
+    let room = first_to c.args.src.now c.requires.0 (lane_source_is c.args.source.format) p.row p.slice c.args.target.sized q.z q.y q.x in
+    omega (arith, room)
 
 pub rewrite_texels-requires : goal.rewrite_texels-requires
-unfolding bytes_of parts_of
 rewrite_texels-requires c =
-    let from_fits = row_read bt601 c.args.src.now _ _ _ _ _ _ c.requires.0 (lane_source_is c.args.src_format) _ _ c.requires.1 c.requires.2 in
-    let to_fits = row_write bt601 c.args.src.now _ _ _ _ _ _ c.requires.0 (lane_source_is c.args.src_format) _ _ c.requires.1 c.requires.2 in
-    let g = c.args in
-    let lying : (lane_source_code g.src_format) ≡ 21 = search rules in
-    let e : bytes_of (lane_source_code g.src_format) ≡ 4 = ap bytes_of lying in
-    let four : g.region.width * bytes_of (lane_source_code g.src_format) ≡ g.region.width * 4 = ap (λ n. g.region.width * n) e in
-    (omega (arith, from_fits, four), to_fits)
+    let lying : lane_source_code c.args.source.format ≡ 21 = search rules in
+    lies c.args.src.now c.requires.0 (lane_source_is c.args.source.format) _ _ (record { source = cc; destination = cc }) lying
 
 pub returns-then-eq : goal.returns-then-eq
-unfolding row_written
 returns-then-eq c =
-    let g = c.args in
-    let wrote = c.rewrite_texels in
-    let lying : (lane_source_code g.src_format) ≡ 21 = search rules in
-    λ numbers. lying_row bt601 g.src.now _ _ _ _ _ _ c.requires.0 (lane_source_is c.args.src_format) _ _ c.requires.1 c.requires.2 lying g.dst.now _ wrote.result wrote.ensures
-    ∙ any_set bt601 numbers g.src.now (lane_source_code g.src_format) (rgb_code g.dst_format) g.region g.z g.row g.dst.now (lane_source_is c.args.src_format)
+    let lying : lane_source_code c.args.source.format ≡ 21 = search rules in
+    rewritten c.args.src.now c.requires.0 (lane_source_is c.args.source.format) _ _ _ _ _ (record { source = cc; destination = cc }) lying c.rewrite_texels.ensures
 
 pub loop-done-init : goal.loop-done-init
-loop-done-init c =
-    let g = c.args in
-    (first_carried bt601 g.src.now _ _ _ _ _ _ c.requires.0 (lane_source_is c.args.src_format) _ _ c.requires.1 c.requires.2, sym (iterate_zero _ _), refl, refl, search rules)
+loop-done-init c = record {
+  reached = record { carried = record { source = cc; destination = cc }; written = sym (iterate_zero _ _) };
+  kept = refl;
+  block = search rules;
+  within = omega arith;
+}
 
 pub read_texels-from-requires : goal.read_texels-from-requires
 read_texels-from-requires c =
-    let sized : (0 < c.min-n.result) × (c.min-n.result ≤ 64) × (c.loop-done.done + c.min-n.result ≤ c.args.region.width) = let left = c.args.region.width - c.loop-done.done in
-    let e : c.min-n.result ≡ min left 64 = c.min-n.ensures in
-    (omega (arith, e, c.loop-done-test.true), omega (arith, e), omega (arith, e, c.loop-done-test.true)) in
-    let reads : c.loop-done.from + c.min-n.result * bytes_of (lane_source_code c.args.src_format) ≤ length c.args.src.now = let g = c.args in
     let l = c.loop-done in
-    read_room bt601 g.src.now _ _ _ _ _ _ c.requires.0 (lane_source_is c.args.src_format) l.done _ l.from l.to l.invariant.0 sized.0 sized.2 in
-    let l = c.loop-done in
-    (sized.0, omega (arith, sized.1, c.requires.3, l.invariant.3), reads)
+    let p = part_of l.done c.args.at.region.width c.min-n.result l.block c.loop-done-test.true c.min-n.ensures l.invariant.block in
+    (p.0, reads c.args.src.now c.requires.0 (lane_source_is c.args.source.format) l.invariant.reached _ p.0 p.1)
 
 pub write_texels-to-requires : goal.write_texels-to-requires
 write_texels-to-requires c =
-    let sized : (0 < c.min-n.result) × (c.min-n.result ≤ 64) × (c.loop-done.done + c.min-n.result ≤ c.args.region.width) = let left = c.args.region.width - c.loop-done.done in
-    let e : c.min-n.result ≡ min left 64 = c.min-n.ensures in
-    (omega (arith, e, c.loop-done-test.true), omega (arith, e), omega (arith, e, c.loop-done-test.true)) in
-    let writes : c.loop-done.to + c.min-n.result * bytes_of (rgb_code c.args.dst_format) ≤ length c.args.dst.now = let g = c.args in
     let l = c.loop-done in
-    write_room bt601 g.src.now _ _ _ _ _ _ c.requires.0 (lane_source_is c.args.src_format) l.done _ l.from l.to l.invariant.0 sized.0 sized.2 in
-    let l = c.loop-done in
-    (omega (arith, sized.1, c.requires.3, l.invariant.3, c.read_texels-from.auto.block), subst (λ (m : ℕ). l.to + c.min-n.result * bytes_of (rgb_code c.args.dst_format) ≤ m) (sym l.invariant.2) writes)
-
-pub loop-done-smaller : goal.loop-done-smaller
-loop-done-smaller c = omega arith
+    let p = part_of l.done c.args.at.region.width c.min-n.result l.block c.loop-done-test.true c.min-n.ensures l.invariant.block in
+    rw (c.read_texels-from.auto.block, l.invariant.kept) (writes c.args.src.now c.requires.0 (lane_source_is c.args.source.format) l.invariant.reached _ p.0 p.1)
 
 pub loop-done-preserved : goal.loop-done-preserved
-unfolding source_texel to_at written
 loop-done-preserved c =
     let l = c.loop-done in
-    let g = c.args in
-    let e : c.min-n.result ≡ 64 = omega (arith, c.min-n.ensures) in
-    let sized : (0 < c.min-n.result) × (c.min-n.result ≤ 64) × (l.done + c.min-n.result ≤ g.region.width) = (omega (arith, e), omega (arith, e), omega (arith, e)) in
+    let p = part_of l.done c.args.at.region.width c.min-n.result l.block c.loop-done-test.true c.min-n.ensures l.invariant.block in
     let read = c.read_texels-from in
-    let wrote = c.write_texels-to in
-    let texels = block_texels bt601 g.src.now _ _ _ _ _ _ c.requires.0 (lane_source_is c.args.src_format) l.done _ l.from l.to l.invariant.0 sized.0 sized.2 read.new.block read.result read.ensures in (
-      subst (λ k. CarriedIn (lane_source_code g.src_format) (rgb_code g.dst_format) g.region g.z g.row (l.done + k) read.result wrote.result) e
-          (block_carried bt601 g.src.now _ _ _ _ _ _ c.requires.0 (lane_source_is c.args.src_format) l.done _ l.from l.to l.invariant.0 sized.0 sized.2 read.new.block read.result read.ensures (word_of read.new.block) l.dst wrote.new.dst wrote.result wrote.ensures),
-      subst (λ k. wrote.new.dst ≡ iterate (written bt601 g.src.now (lane_source_code g.src_format) (rgb_code g.dst_format) g.region g.z g.row) (l.done + k) g.dst.now) e
-          (block_rows bt601 g.src.now _ _ _ _ _ _ c.requires.0 (lane_source_is c.args.src_format) l.done _ l.from l.to l.invariant.0 sized.0 sized.2 (word_of read.new.block) g.dst.now l.dst wrote.new.dst wrote.result wrote.ensures texels l.invariant.1),
-      wrote.auto.dst ∙ l.invariant.2,
-      read.auto.block ∙ l.invariant.3,
-      omega arith,
-    )
+    record {
+      reached = further c.args.src.now c.requires.0 (lane_source_is c.args.source.format) l.invariant.reached _ p.0 p.1 read.ensures c.write_texels-to.ensures read.auto.block _ (omega (arith, p.2));
+      kept = c.write_texels-to.auto.dst ∙ l.invariant.kept;
+      block = simp (length-append, length-drop) (omega (arith, read.auto.block, p.2));
+      within = omega arith;
+    }
 
 pub returns-else-eq : goal.returns-else-eq
-unfolding row_written source_texel to_at written
 returns-else-eq c =
-    let past = le_antisymm c.loop-done.invariant.4 c.loop-done-test.false in
-    let g = c.args in
-    λ numbers. c.loop-done.invariant.1 ∙ rw past refl
-    ∙ any_set bt601 numbers g.src.now (lane_source_code g.src_format) (rgb_code g.dst_format) g.region g.z g.row g.dst.now (lane_source_is c.args.src_format)
+    whole c.args.src.now c.requires.0 (lane_source_is c.args.source.format) _ _ _ _ _ c.loop-done.invariant.reached (le_antisymm c.loop-done.invariant.within c.loop-done-test.false)
 
 pub returns-else-eq-2 : goal.returns-else-eq-2
-unfolding row_written written source_texel to_at
 returns-else-eq-2 c =
     let l = c.loop-done in
-    let g = c.args in
-    let e : l.done + c.min-n.result ≡ g.region.width = omega (arith, c.min-n.ensures) in
-    let sized : (0 < c.min-n.result) × (c.min-n.result ≤ 64) × (l.done + c.min-n.result ≤ g.region.width) = (omega (arith, e), omega (arith, e), omega (arith, e)) in
+    let p = part_of l.done c.args.at.region.width c.min-n.result l.block c.loop-done-test.true c.min-n.ensures l.invariant.block in
     let read = c.read_texels-from in
-    let wrote = c.write_texels-to in
-    let texels = block_texels bt601 g.src.now _ _ _ _ _ _ c.requires.0 (lane_source_is c.args.src_format) l.done _ l.from l.to l.invariant.0 sized.0 sized.2 read.new.block read.result read.ensures in
-    λ numbers. subst (λ k. wrote.new.dst ≡ iterate (written bt601 g.src.now (lane_source_code g.src_format) (rgb_code g.dst_format) g.region g.z g.row) k g.dst.now) e
-    (block_rows bt601 g.src.now _ _ _ _ _ _ c.requires.0 (lane_source_is c.args.src_format) l.done _ l.from l.to l.invariant.0 sized.0 sized.2 (word_of read.new.block) g.dst.now l.dst wrote.new.dst wrote.result wrote.ensures texels l.invariant.1)
-    ∙ any_set bt601 numbers g.src.now (lane_source_code g.src_format) (rgb_code g.dst_format) g.region g.z g.row g.dst.now (lane_source_is c.args.src_format)
+    let done = further c.args.src.now c.requires.0 (lane_source_is c.args.source.format) l.invariant.reached _ p.0 p.1 read.ensures c.write_texels-to.ensures read.auto.block _ refl in
+    whole c.args.src.now c.requires.0 (lane_source_is c.args.source.format) _ _ _ _ _ done (omega (arith, p.2))

@@ -7,7 +7,7 @@ use Rattle.blocks.proofs.rewrite_texels.Goals as goal
 
 pub returns : goal.returns
 returns c =
-    c.write_words.ensures (word_in c.args.src.now c.args.from)
+    c.write_words.ensures.by (word_in c.args.src.now c.args.from)
     (λ k w h p.
     let at : ℕ = c.args.from + k * 4 in
     let read : w ≡ number (take 4 (take (length c.args.src.now - at) (drop at c.args.src.now))) = search rules in

@@ -1,5 +1,5 @@
 -- `blocks::write_block` meets its contract: texel by texel, with the offset carried. Assumes nothing.
-use Rattle.std.proofs.Common.{◌≡◌, ◌+◌, ◌*◌, ◌<◌, ◌≤◌, ℕ, length, length-take, length-drop, refl, sym, ap, ◌∙◌, arith}
+use Rattle.std.proofs.Common.{◌≡◌, ◌+◌, ◌*◌, ◌<◌, ◌≤◌, ℕ, length, refl, sym, ap, ◌∙◌, arith}
 use lib.Seq.{sets, length-sets}
 use Rattle.words.specs.Iterate.{iterate_zero}
 use Rattle.formats.specs.Codes.{A8R8G8B8}
@@ -20,26 +20,6 @@ loop-k-init g c = record {
   written = λ given gives. record { bytes = sym (iterate_zero _ _); carried = omega arith };
   kept = refl;
 }
-
-pub slice_bounds-write_word-count : goal.slice_bounds-write_word-count
-slice_bounds-write_word-count g c =
-    let l = c.loop-k in
-    omega (arith, room _ _ _ _ _ _ _ l.invariant.kept c.requires.room.1 c.loop-k-test.true l.invariant.carried)
-
-pub slice_bounds-write_word-start : goal.slice_bounds-write_word-start
-slice_bounds-write_word-start g c =
-    let l = c.loop-k in
-    omega (arith, room _ _ _ _ _ _ _ l.invariant.kept c.requires.room.1 c.loop-k-test.true l.invariant.carried)
-
-pub write_word-requires : goal.write_word-requires
-write_word-requires g c =
-    let l = c.loop-k in
-    (simp (length-take, length-drop) (omega (arith, room _ _ _ _ _ _ _ l.invariant.kept c.requires.room.1 c.loop-k-test.true l.invariant.carried)))
-
-pub overflow_add-off : goal.overflow_add-off
-overflow_add-off g c =
-    let l = c.loop-k in
-    omega (arith, room _ _ _ _ _ _ _ l.invariant.kept c.requires.room.1 c.loop-k-test.true l.invariant.carried, c.requires.room.0)
 
 pub loop-k-preserved : goal.loop-k-preserved
 loop-k-preserved g c =

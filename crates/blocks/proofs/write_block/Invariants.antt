@@ -1,4 +1,4 @@
-use Rattle.std.proofs.Common.{ℕ, ◌≡◌, ◌+◌, ◌*◌, length}
+use Rattle.std.specs.Prelude.{ℕ, ◌≡◌, ◌+◌, ◌*◌, length}
 use Rattle.formats.specs.Table.{bytes_of}
 use Rattle.formats.specs.Formats.{rgb_code}
 use Rattle.blocks.specs.Blocks.{WordsWritten, Gives}

@@ -4,4 +4,4 @@ use Rattle.blocks.specs.Blocks.{word_of}
 use Rattle.blocks.proofs.write_texels.Goals as goal
 
 pub returns : goal.returns
-returns c = c.write_words.ensures (word_of c.args.block.now) (λ k w h p. search rules)
+returns c = c.write_words.ensures.by (word_of c.args.block.now) (λ k w h p. search rules)

@@ -1,12 +1,6 @@
 -- `channels::expand` meets its contract: two shifts from four bits on, and below the product's top byte, computed for every code. Assumes nothing.
-use mathlib.Core.Path.{◌≡◌, sym, ap, ◌∙◌, subst}
-use mathlib.Core.Bool.{Bool}
-use Prim.Native.Nat.{ℕ, ◌+◌, ◌-◌, ◌*◌, ◌/◌, ◌%◌, ◌^◌, ◌≤◌, ◌<◌}
-use native.Mathlib.Nat.{mod-lt}
-use native.Mathlib.Omega.{arith}
-use lib.Dec.{T, eqb, eqb→eq}
-use lib.Bits.{bit_or, or_shifted}
-use lib.Pow.{pow_pos, shl_exact, shr_lt}
+use Rattle.std.proofs.Common.{◌≡◌, sym, ap, ◌∙◌, subst, Bool, ℕ, ◌+◌, ◌-◌, ◌*◌, ◌/◌, ◌%◌, ◌^◌, ◌≤◌, ◌<◌, mod-lt, arith, T, eqb, eqb→eq, bit_or, pow_pos, shl_exact, shr_lt}
+use lib.Bits.{or_shifted}
 use Rattle.std.proofs.lemmas.Nat.{one_shl}
 use Rattle.words.specs.Computed.{every_below, below_at}
 use Rattle.channels.specs.Expansion.{expanded, expands, by_width, two_copies}

@@ -1,10 +1,6 @@
 -- `channels::f32_to_nearest_code` meets its contract: a pattern counts as one from 0 to one, which stands for a significand over a power of two.
-use mathlib.Core.Path.{◌≡◌, sym, ap, ◌∙◌}
-use mathlib.Core.Logic.{inl, inr, ⊎_elim}
-use Prim.Native.Nat.{ℕ, suc, ◌+◌, ◌-◌, ◌*◌, ◌/◌, ◌%◌, ◌^◌, ◌≤◌, ◌<◌, min}
-use native.Mathlib.Nat.{le_of_lt, div-le_self, div-eq_of_lt, mul_comm, mul_assoc, mul-le-mul, mul-le-mul_right, min-eq_left, min-eq_right, pow-succ'}
-use native.Mathlib.Omega.{arith}
-use lib.Pow.{pow_pos, shr-shr}
+use Rattle.std.proofs.Common.{◌≡◌, sym, ap, ◌∙◌, inl, inr, ⊎_elim, ℕ, suc, ◌+◌, ◌-◌, ◌*◌, ◌/◌, ◌%◌, ◌^◌, ◌≤◌, ◌<◌, min, le_of_lt, mul_comm, mul_assoc, mul-le-mul, mul-le-mul_right, arith, pow_pos, shr-shr}
+use native.Mathlib.Nat.{div-eq_of_lt, min-eq_left, min-eq_right, pow-succ'}
 use lib.Ieee.{binary32, of_bits}
 use Rattle.words.specs.Tests.{split}
 use Rattle.channels.specs.Nearest.{rounded, rounded_none, rounded_whole, rounded_same, rounded_halved}
@@ -64,19 +60,6 @@ module _ (max : ℕ) where
 
     computed : shifted max u (min (127 - u / 8388608) 31) ≡ code u
     computed = ⊎_elim code_small code_normal (split u 805306368)
-
-pub overflow_mul-scaled : goal.overflow_mul-scaled
-overflow_mul-scaled c =
-    omega (arith, product c.min-unit.result c.args.max c.requires)
-
-pub overflow_cast-scaled : goal.overflow_cast-scaled
-overflow_cast-scaled c =
-    omega (arith, product c.min-unit.result c.args.max c.requires)
-
-pub overflow_add-result : goal.overflow_add-result
-overflow_add-result c =
-    let u = c.min-unit.result in
-    omega (arith, product u c.args.max c.requires, div-le_self ((8388608 + u % 8388608) * c.args.max / 4194304) (2 ^ c.min.result))
 
 pub returns : goal.returns
 returns c =

@@ -1,16 +1,9 @@
 -- `channels::nearest_even_shifted` meets its contract: 2 ^ (s - 1) is below 2 ^ 64, so nothing is shifted out, and twice it is 2 ^ s. Assumes nothing.
-use mathlib.Core.Path.{◌≡◌, sym, ap, ◌∙◌, subst}
-use Prim.Native.Nat.{ℕ, suc, ◌+◌, ◌-◌, ◌*◌, ◌/◌, ◌%◌, ◌^◌, ◌<◌}
-use native.Mathlib.Nat.{pow-suc, mul_comm}
-use native.Mathlib.Omega.{arith}
-use lib.Pow.{pow_pos, pow-lt}
+use Rattle.std.proofs.Common.{◌≡◌, sym, ap, ◌∙◌, subst, ℕ, suc, ◌+◌, ◌-◌, ◌*◌, ◌/◌, ◌%◌, ◌^◌, ◌<◌, pow-suc, mul_comm, arith, pow_pos}
 use lib.Ieee.Nearest.{closest}
 use Rattle.channels.specs.Even.{closest_added}
 use Rattle.std.proofs.lemmas.Nat.{one_shl}
 use Rattle.channels.proofs.nearest_even_shifted.Goals as goal
-
-half_lt : (s : ℕ) → s < 62 → 2 ^ (s - 1) < 4611686018427387904
-half_lt s h = pow-lt {i = s - 1} {j = 62} (omega arith)
 
 half_shifted : (s : ℕ) → s < 62 → 1 * 2 ^ (s - 1) % 18446744073709551616 ≡ 2 ^ (s - 1)
 half_shifted s h = one_shl (s - 1) 64 (omega arith)
@@ -24,18 +17,6 @@ computed : (n s : ℕ) → 0 < s → s < 62 → (n + (1 * 2 ^ (s - 1) % 18446744
 computed n s p h =
     ap (λ (x : ℕ). (n + (x - 1) + n / 2 ^ s % 2) / 2 ^ s) (half_shifted s h)
     ∙ subst (λ (d : ℕ). (n + (2 ^ (s - 1) - 1) + n / d % 2) / d ≡ closest n d) (sym (doubled s p)) (closest_added n (2 ^ (s - 1)) (pow_pos (s - 1)))
-
-pub overflow_sub-result : goal.overflow_sub-result
-overflow_sub-result c =
-    omega (arith, half_shifted c.args.s c.requires.2, pow_pos (c.args.s - 1))
-
-pub overflow_add-result : goal.overflow_add-result
-overflow_add-result c =
-    omega (arith, half_shifted c.args.s c.requires.2, half_lt c.args.s c.requires.2)
-
-pub overflow_add-result-2 : goal.overflow_add-result-2
-overflow_add-result-2 c =
-    omega (arith, half_shifted c.args.s c.requires.2, half_lt c.args.s c.requires.2)
 
 pub returns : goal.returns
 returns c =

@@ -1,7 +1,5 @@
 -- `channels::unorm16_to_unorm8` meets its contract: 255 / 65536 falls short of 1 / 257 by too little to change the quotient of a sixteen-bit code. Assumes nothing.
-use mathlib.Core.Path.{◌≡◌, refl, ◌∙◌}
-use Prim.Native.Nat.{ℕ, ◌+◌, ◌*◌, ◌/◌, ◌<◌}
-use native.Mathlib.Omega.{arith}
+use Rattle.std.proofs.Common.{◌≡◌, refl, ◌∙◌, ℕ, ◌+◌, ◌*◌, ◌/◌, ◌<◌, arith}
 use Rattle.channels.specs.Nearest.{rounded_by_half, is_odd}
 use Rattle.channels.proofs.unorm16_to_unorm8.Goals as goal
 

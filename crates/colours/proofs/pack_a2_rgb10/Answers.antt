@@ -1,7 +1,6 @@
 -- `colours::pack_a2_rgb10` meets its contract: shifts and ors are sums, by `four` at the widths 2, 10, 10, 10. Assumes nothing.
-use native.Mathlib.Omega.{arith}
+use Rattle.std.proofs.Common.{arith, rules}
 use Rattle.colours.proofs.LaneWords.{four, nearest_bits}
-use borrow.Author.Rules.{rules}
 use Rattle.colours.proofs.pack_a2_rgb10.Goals as goal
 
 pub returns : goal.returns

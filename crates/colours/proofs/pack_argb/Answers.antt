@@ -1,6 +1,6 @@
 -- `colours::pack_argb` meets its contract: shifts and ors are sums, by `argb` at the widths ALPHA and COLOUR. Assumes nothing.
 use Rattle.colours.proofs.LaneWords.{argb, top_bits}
-use borrow.Author.Rules.{rules}
+use Rattle.std.proofs.Common.{rules}
 use Rattle.colours.proofs.pack_argb.Goals as goal
 
 pub returns : goal.returns

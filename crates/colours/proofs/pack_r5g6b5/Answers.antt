@@ -1,7 +1,6 @@
 -- `colours::pack_r5g6b5` meets its contract: shifts and ors are sums, by `three` at the widths 5, 6, 5. Assumes nothing.
-use native.Mathlib.Omega.{arith}
+use Rattle.std.proofs.Common.{arith, rules}
 use Rattle.colours.proofs.LaneWords.{three, top_bits}
-use borrow.Author.Rules.{rules}
 use Rattle.colours.proofs.pack_r5g6b5.Goals as goal
 
 pub returns : goal.returns

@@ -1,7 +1,6 @@
 -- `colours::unorm8_to_f32` meets its contract: the literal is the whole number 255. Assumes nothing.
-use mathlib.Core.Path.{◌≡◌, refl, ap}
-use lib.IntN.{pos}
-use lib.Ieee.{Float, binary32, of_int, of_bits, div}
+use Rattle.std.proofs.Common.{◌≡◌, refl, ap, pos, Float}
+use lib.Ieee.{binary32, of_int, of_bits, div}
 use Rattle.colours.proofs.unorm8_to_f32.Goals as goal
 
 literal : of_bits binary32 0x437f_0000 ≡ of_int binary32 (pos 255)

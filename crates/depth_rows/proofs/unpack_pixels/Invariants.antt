@@ -1,4 +1,4 @@
-use mathlib.Core.Path.{◌≡◌}
+use Rattle.std.specs.Prelude.{◌≡◌}
 use Rattle.depth_pixels.specs.Pixels.{format_code}
 use Rattle.depth_pixels.specs.PixelBytes.{depth_row, stencil_row}
 use Rattle.depth_rows.proofs.unpack_pixels.Given as goal
@@ -6,4 +6,4 @@ use Rattle.depth_rows.proofs.unpack_pixels.Given as goal
 abbrev pub invariant-loop-x : goal.invariant-loop-x
 invariant-loop-x g l =
     let f = format_code g.P.PackedPixel.kind in
-    (l.depth ≡ depth_row f l.packed l.from l.to l.x l.initial.depth) × (l.stencil ≡ stencil_row f l.packed l.from l.at l.x l.initial.stencil)
+    (l.depth ≡ depth_row f l.packed l.row.packed l.row.depth l.x l.initial.depth) × (l.stencil ≡ stencil_row f l.packed l.row.packed l.row.stencil l.x l.initial.stencil)

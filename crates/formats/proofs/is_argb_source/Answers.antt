@@ -1,6 +1,5 @@
 -- `formats::is_argb_source` meets its contract: such a source has binary32 channels or whole numbers. Assumes nothing.
-use Rattle.std.specs.Prelude.{◌||◌}
-use Rattle.std.proofs.Common.{sym, ap, ◌∙◌, eq-eqb, ne_eqb}
+use Rattle.std.proofs.Common.{◌||◌, sym, ap, ◌∙◌, eq-eqb, ne_eqb}
 use Rattle.formats.specs.Codes.{A32B32G32R32F}
 use Rattle.formats.specs.Classes.{is_code_source}
 use Rattle.formats.proofs.Classified.{argb_parts}

@@ -1,5 +1,4 @@
-use mathlib.Core.Path.{◌≡◌}
-use lib.ListN.{take}
+use Rattle.std.specs.Prelude.{◌≡◌, take}
 use lib.Seq.{sets}
 use Rattle.splat.proofs.put_block.Given as goal
 

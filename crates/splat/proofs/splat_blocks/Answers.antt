@@ -1,8 +1,5 @@
 -- `splat::splat_blocks` meets its contract: the blocks so far, a whole number of patterns, are the pattern's. Assumes nothing.
-use mathlib.Core.Path.{refl}
-use Prim.Native.Nat.{◌*◌}
-use native.Mathlib.Omega.{arith}
-use lib.ListN.{length}
+use Rattle.std.proofs.Common.{refl, ◌*◌, arith, length}
 use Rattle.splat.proofs.Splats.{turn_of, done_rest, whole_turns}
 use Rattle.splat.proofs.splat_blocks.Goals as goal
 

@@ -1,4 +1,4 @@
-use Prim.Native.Nat.{◌*◌}
+use Rattle.std.specs.Prelude.{◌*◌}
 use Rattle.splat.proofs.Splats.{Done}
 use Rattle.splat.proofs.splat_blocks.Given as goal
 

@@ -1,6 +1,4 @@
-use mathlib.Core.Path.{◌≡◌}
-use Prim.Native.Nat.{◌%◌}
-use lib.ListN.{length}
+use Rattle.std.specs.Prelude.{◌≡◌, ◌%◌, length}
 use Rattle.splat.proofs.Splats.{Done}
 use Rattle.splat.proofs.splat_bytes.Given as goal
 

@@ -1,16 +1,10 @@
 -- `texels::decode_a16b16g16r16` meets its contract: each half of a word of four bytes is the lane of the table. Assumes nothing.
-use mathlib.Core.Path.{◌≡◌, ap, ◌∙◌, subst}
-use mathlib.Core.List.{List}
-use Prim.Native.Nat.{ℕ, ◌+◌, ◌*◌, ◌/◌, ◌%◌, ◌^◌, ◌<◌}
-use native.Mathlib.Omega.{arith}
-use lib.ListN.{take, drop}
-use lib.Seq.{length-take-le}
+use Rattle.std.proofs.Common.{◌≡◌, ap, ◌∙◌, subst, List, ℕ, ◌+◌, ◌*◌, ◌/◌, ◌%◌, ◌^◌, ◌<◌, arith, take, drop, length-take-le}
 use Rattle.words.specs.Little.{Small, number, number_split, number_lt, small_list, small_take}
 use Rattle.words.specs.Slices.{part_read}
 use Rattle.formats.specs.Table.{lane_of, parts_of}
 use Rattle.channels.specs.Nearest.{rounded}
 use Rattle.texels.specs.Texels.{decoded_of, colour_of}
-use Rattle.texels.proofs.Arms.{four_bytes}
 use Rattle.texels.proofs.decode_a16b16g16r16.Goals as goal
 
 lanes : (low high w : ℕ) → low < 4294967296 → w ≡ low + 4294967296 * high
@@ -21,7 +15,7 @@ pub returns : goal.returns
 unfolding colour_of decoded_of lane_of parts_of
 returns c =
     let l = c.args.px.now in
-    let small : Small l = small_list l (λ i h. omega (arith, c.shared_slice_known-1.given i)) in
+    let small : Small l = small_list l (λ i h. omega (arith, c.type_inv.px i)) in
     let room = c.requires in
     let low = number (take 4 l) in
     let high = number (take 4 (drop 4 l)) in
@@ -30,8 +24,9 @@ returns c =
     let byte : ℕ → ℕ = λ n. rounded (255 * n) 65535 in
     let first = c.le32-low.ensures in
     let second = c.le32-high.ensures ∙ ap (λ (m : List ℕ). number (take 4 m)) (part_read l 4) in
-    four_bytes
-    (c.nearest16.ensures ∙ ap (λ n. byte (n % 65536)) first ∙ ap byte each.0)
-    (c.nearest16-2.ensures ∙ ap (λ n. byte (n / 65536 % 65536)) first ∙ ap byte each.1)
-    (c.nearest16-3.ensures ∙ ap (λ n. byte (n % 65536)) second ∙ ap byte each.2)
-    (c.nearest16-4.ensures ∙ ap (λ n. byte (n / 65536 % 65536)) second ∙ ap byte each.3)
+    cc (
+      c.nearest16.ensures ∙ ap (λ n. byte (n % 65536)) first ∙ ap byte each.0,
+      c.nearest16-2.ensures ∙ ap (λ n. byte (n / 65536 % 65536)) first ∙ ap byte each.1,
+      c.nearest16-3.ensures ∙ ap (λ n. byte (n % 65536)) second ∙ ap byte each.2,
+      c.nearest16-4.ensures ∙ ap (λ n. byte (n / 65536 % 65536)) second ∙ ap byte each.3,
+    )

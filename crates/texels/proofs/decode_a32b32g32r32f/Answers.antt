@@ -1,9 +1,5 @@
 -- `texels::decode_a32b32g32r32f` meets its contract: each word of four bytes is the lane of the table. Assumes nothing.
-use mathlib.Core.Path.{sym, ap, ◌∙◌}
-use Prim.Native.Nat.{ℕ}
-use native.Mathlib.Omega.{arith}
-use mathlib.Core.List.{List}
-use lib.ListN.{take}
+use Rattle.std.proofs.Common.{sym, ap, ◌∙◌, ℕ, arith, List, take}
 use Rattle.words.specs.Little.{Small, number, small_list}
 use Rattle.words.specs.Slices.{part_read}
 use lib.Ieee.{binary32, of_bits}
@@ -17,7 +13,7 @@ pub returns : goal.returns
 unfolding colour_of decoded_of lane_of parts_of
 returns c =
     let l = c.args.px.now in
-    let small : Small l = small_list l (λ i h. omega (arith, c.shared_slice_known-1.given i)) in
+    let small : Small l = small_list l (λ i h. omega (arith, c.type_inv.px i)) in
     let h = c.requires in
     let word : List ℕ → ℕ = λ m. number (take 4 m) in
     let float : ℕ → ℕ = λ k. nearest_byte (float_value (of_bits binary32 k)) in

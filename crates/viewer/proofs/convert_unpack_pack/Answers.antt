@@ -1,6 +1,5 @@
 -- `viewer::convert_unpack_pack` meets its contract: by the contracts of the three calls alone. Assumes nothing.
-use mathlib.Core.Path.{sym, ◌∙◌, subst}
-use Prim.Native.Nat.{ℕ, ◌<◌}
+use Rattle.std.proofs.Common.{sym, ◌∙◌, subst, ℕ, ◌<◌}
 use Rattle.depth_texture.proofs.RoundTrip.{unpacked_refused, packed_refused}
 use Rattle.yuv_sets.specs.Sets.{bt601}
 use Rattle.viewer.specs.Viewer.{conversion_refused}

@@ -1,31 +1,16 @@
--- `yuv_pairs::gather_chromas` meets its contract: by the kind of the picture. Assumes nothing.
-use Rattle.std.proofs.Common.{sym, subst, length}
-use Rattle.formats.specs.Formats.{yuv_code}
-use Rattle.yuv_pairs.specs.Gathered.{chroma_step, Gathered, Arranged, PairsIn}
+-- `yuv_pairs::gather_chromas` meets its contract: each arm gathers from where its format has U and V. Assumes nothing.
+use Rattle.std.proofs.Common.{arith}
+use Rattle.yuv_pairs.proofs.Variants.{yuy2_in, uyvy_in, u_plane_in, v_plane_in, nv12_chromas_in}
 use Rattle.yuv_pairs.proofs.gather_chromas.Goals as goal
 
-pub packed_chromas-requires : goal.packed_chromas-requires
-packed_chromas-requires c =
-    let g = c.args in (
-      c.requires.0,
-      subst (λ f. Arranged (yuv_code f) g.luma g.u g.v) c.in-Packed.is c.requires.1,
-      subst (λ f. PairsIn (length g.src.now) (yuv_code f) g.luma g.u g.v g.n) c.in-Packed.is c.requires.2,
-    )
+pub gather_packed-requires : goal.gather_packed-requires
+gather_packed-requires c = (omega arith, yuy2_in c.requires c.in-Yuy2.is)
 
-pub returns-in-Packed : goal.returns-in-Packed
-returns-in-Packed c =
-    let g = c.args in
-    subst (λ f. Gathered g.src.now g.u g.v (chroma_step (yuv_code f)) g.n c.packed_chromas.new.chromas) (sym c.in-Packed.is) c.packed_chromas.ensures
+pub gather_packed-requires-in-Uyvy : goal.gather_packed-requires-in-Uyvy
+gather_packed-requires-in-Uyvy c = (omega arith, uyvy_in c.requires c.in-Uyvy.is)
 
-pub planar_chromas-requires : goal.planar_chromas-requires
-planar_chromas-requires c =
-    let g = c.args in (
-      c.requires.0,
-      subst (λ f. Arranged (yuv_code f) g.luma g.u g.v) c.in-Planar.is c.requires.1,
-      subst (λ f. PairsIn (length g.src.now) (yuv_code f) g.luma g.u g.v g.n) c.in-Planar.is c.requires.2,
-    )
+pub gather_planes-requires : goal.gather_planes-requires
+gather_planes-requires c = (u_plane_in c.requires c.in-Yv12.is, v_plane_in c.requires c.in-Yv12.is)
 
-pub returns-in-Planar : goal.returns-in-Planar
-returns-in-Planar c =
-    let g = c.args in
-    subst (λ f. Gathered g.src.now g.u g.v (chroma_step (yuv_code f)) g.n c.planar_chromas.new.chromas) (sym c.in-Planar.is) c.planar_chromas.ensures
+pub gather_words-requires : goal.gather_words-requires
+gather_words-requires c = nv12_chromas_in c.requires c.in-Nv12.is

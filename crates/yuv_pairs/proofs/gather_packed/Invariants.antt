@@ -1,4 +1,4 @@
-use Rattle.std.proofs.Common.{◌≡◌, ◌+◌, ◌*◌}
+use Rattle.std.specs.Prelude.{◌≡◌, ◌+◌, ◌*◌}
 use Rattle.yuv_pairs.specs.Gathered.{Gathered}
 use Rattle.yuv_pairs.proofs.gather_packed.Given as goal
 

@@ -1,9 +1,5 @@
 -- `yuv_pairs::packed_word` meets its contract: a shift by whole bytes, and two bytes of what is left. Assumes nothing.
-use mathlib.Core.Path.{◌≡◌, ap, ap₂, ◌∙◌}
-use Prim.Native.Nat.{◌+◌, ◌*◌, ◌/◌, ◌%◌, ◌^◌}
-use native.Mathlib.Omega.{arith}
-use native.Mathlib.Nat.{mul_comm}
-use lib.Pow.{shr-shr}
+use Rattle.std.proofs.Common.{◌≡◌, ap, ap₂, ◌∙◌, ◌+◌, ◌*◌, ◌/◌, ◌%◌, ◌^◌, arith, mul_comm, shr-shr}
 use Rattle.yuv_pairs.specs.Gathered.{two_bytes}
 use Rattle.yuv_pairs.proofs.packed_word.Goals as goal
 

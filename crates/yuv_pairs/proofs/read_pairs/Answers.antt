@@ -1,11 +1,19 @@
 -- `yuv_pairs::read_pairs` meets its contract: what is gathered and coloured is read. Assumes nothing.
-use native.Mathlib.Omega.{arith}
-use Rattle.formats.specs.Formats.{yuv_code}
-use Rattle.yuv_pairs.specs.Gathered.{read_all}
+use Rattle.std.proofs.Common.{arith, ◌∙◌, length, ◌/◌, subst, length-take-le}
+use Rattle.yuv_pairs.specs.Gathered.{read_all, Coloured}
+use Rattle.yuv_pairs.specs.Places.{format_of, luma_at, u_at, v_at, LumasGathered, ChromasGathered}
 use Rattle.yuv_pairs.proofs.read_pairs.Goals as goal
 
 pub returns : goal.returns
 returns c =
     let g = c.args in
-    read_all g.lines g.src.now (yuv_code g.format) g.luma g.u g.v g.n _ _ _ _
-    (λ i. omega (arith, c.type_inv.src i)) c.gather_lumas.ensures c.gather_chromas.ensures c.colour_pairs.ensures
+    let at = g.at in
+    let n = length g.block.now / 2 in
+    let full = length-take-le n _ c.requires.0 in
+    let lumas = c.gather_lumas.new.lumas in
+    let chromas = c.gather_chromas.new.chromas in
+    read_all g.lines.lines g.src.now (format_of at) (luma_at at) (u_at at) (v_at at) n lumas chromas _ _
+    (λ i. omega (arith, c.type_inv.src i))
+    (subst (λ k. LumasGathered g.src.now at k lumas) full c.gather_lumas.ensures)
+    (subst (λ k. ChromasGathered g.src.now at k chromas) full c.gather_chromas.ensures)
+    (subst (λ k. Coloured g.lines.lines lumas chromas k g.block.now c.colour_pairs.new.block) (c.gather_lumas.auto.lumas ∙ full) c.colour_pairs.ensures)

@@ -1,6 +1,5 @@
 -- `depth_pixels::D16::decode` meets its contract: the whole word is the code. Assumes nothing.
-use mathlib.Core.Path.{sym, ap, ◌∙◌}
-use native.Mathlib.Omega.{arith}
+use Rattle.std.proofs.Common.{sym, ap, ◌∙◌, arith}
 use Rattle.formats.specs.Codes as codes
 use Rattle.depth_pixels.specs.PackedFormats.{size_d16, max_d16, code_d16, stencil_d16, no_stencil}
 use Rattle.depth_pixels.specs.Pixels.{decoded}

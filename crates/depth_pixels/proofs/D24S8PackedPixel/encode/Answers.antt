@@ -1,7 +1,5 @@
 -- `depth_pixels::D24S8::encode` meets its contract: the stencil byte, and above it the code's bytes. Assumes nothing.
-use mathlib.Core.Path.{◌≡◌, ◌∙◌}
-use Prim.Native.Nat.{ℕ, ◌+◌, ◌*◌, ◌/◌, ◌%◌}
-use native.Mathlib.Omega.{arith}
+use Rattle.std.proofs.Common.{◌≡◌, ◌∙◌, ℕ, ◌+◌, ◌*◌, ◌/◌, ◌%◌, arith}
 use Rattle.formats.specs.Codes as codes
 use Rattle.depth_pixels.specs.PackedFormats.{size_d24s8, max_d24s8, word_d24s8}
 use Rattle.depth_pixels.proofs.Coding.{encodes}

@@ -1,17 +1,11 @@
 -- `depth_pixels::D24X8::decode` meets its contract: the code is the low 24 bits of the word. Assumes nothing.
-use mathlib.Core.Path.{sym, ap, ◌∙◌}
-use Prim.Native.Nat.{◌%◌}
-use native.Mathlib.Omega.{arith}
+use Rattle.std.proofs.Common.{sym, ap, ◌∙◌, ◌%◌}
 use Rattle.formats.specs.Codes as codes
 use Rattle.depth_pixels.specs.PackedFormats.{size_d24x8, max_d24x8, code_d24x8, stencil_d24x8, no_stencil}
 use Rattle.depth_pixels.specs.Pixels.{decoded}
 use Rattle.depth_pixels.specs.declared.PackedDepth.TheVariants.{D24X8}
-use Rattle.depth_pixels.proofs.Coding.{literal_24, exact, word_read, decodes}
+use Rattle.depth_pixels.proofs.Coding.{literal_24, word_read, decodes}
 use Rattle.depth_pixels.proofs.D24X8PackedPixel.decode.Goals as goal
-
-pub int_to_float-result : goal.int_to_float-result
-int_to_float-result c =
-    exact (c.le32-word.result % 16777216) (omega arith)
 
 pub returns : goal.returns
 returns c =

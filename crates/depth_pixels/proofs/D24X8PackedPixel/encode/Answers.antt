@@ -1,7 +1,5 @@
 -- `depth_pixels::D24X8::encode` meets its contract: the word is the code, below the unused byte. Assumes nothing.
-use mathlib.Core.Path.{◌≡◌, ◌∙◌}
-use Prim.Native.Nat.{ℕ, ◌+◌, ◌*◌}
-use native.Mathlib.Omega.{arith}
+use Rattle.std.proofs.Common.{◌≡◌, ◌∙◌, ℕ, ◌+◌, ◌*◌, arith}
 use Rattle.formats.specs.Codes as codes
 use Rattle.depth_pixels.specs.PackedFormats.{size_d24x8, max_d24x8, word_d24x8}
 use Rattle.depth_pixels.proofs.Coding.{encodes}

@@ -1,9 +1,5 @@
 -- `depth_texture::PlaneLayout::new` meets its contract: each answer by the tests that led to it. Assumes nothing.
-use mathlib.Core.Path.{◌≡◌, sym, ap, ◌∙◌}
-use mathlib.Core.Logic.{inl, inr}
-use Prim.Native.Nat.{◌*◌, max}
-use native.Mathlib.Omega.{arith}
-use mathlib.Core.Bool.{true}
+use Rattle.std.proofs.Common.{◌≡◌, sym, ap, ◌∙◌, inl, inr, ◌*◌, max, arith, true}
 use Rattle.depth_texture.specs.Layouts.{is_power_of_two}
 use Rattle.depth_texture.specs.Powers.{counted}
 use Rattle.depth_texture.specs.Refusals.{zero_width, zero_height, no_power, over, made}

@@ -1,8 +1,5 @@
 -- `depth_texture::PlaneLayout::planes_fit` meets its contract: the limit is one more than the largest number of 64 bits. Assumes nothing.
-use mathlib.Core.Path.{sym, ap, ◌∙◌}
-use mathlib.Core.Bool.{◌&&◌}
-use lib.Dec.{leb}
-use Prim.Native.Nat.{◌*◌}
+use Rattle.std.proofs.Common.{sym, ap, ◌∙◌, ◌&&◌, leb, ◌*◌}
 use Rattle.depth_texture.proofs.Library.{both_fit}
 use Rattle.depth_texture.proofs.PlaneLayout.planes_fit.Goals as goal
 

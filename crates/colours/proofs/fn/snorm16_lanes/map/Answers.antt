@@ -1,6 +1,5 @@
 -- The closure of `colours::snorm16_lanes` is safe: the nearest code is at most the scale's top code. Assumes nothing.
-use native.Mathlib.Omega.{arith}
-use borrow.Author.Rules.{rules}
+use Rattle.std.proofs.Common.{arith, rules}
 use Rattle.colours.proofs.LaneWords.{nearest_bits}
 use Rattle.colours.proofs.fn.snorm16_lanes.map.Goals as goal
 
