@@ -2,7 +2,8 @@
 use Rattle.std.proofs.Common.{◌≡◌, refl, Bool, true, false, ◌&&◌, ℕ, ◌+◌, ◌*◌, ◌/◌, ◌^◌, ◌<◌, T, ltb, Float, sym, ap, ◌∙◌, subst, add-zero, arith, ltb-true, ltb-false}
 use Rattle.std.specs.Float.{nan, inf, fin, binary32}
 use Rattle.std.specs.Float.Ieee.{up, down, of_bits}
-use Rattle.words.specs.Tests.{pick, and_left, and_right}
+use Rattle.std.proofs.lemmas.Bool.{and_parts}
+use Rattle.words.specs.Tests.{pick}
 use Rattle.binary16.specs.Half.{magnitude_code, code_of, half_of}
 use Rattle.binary16.specs.Patterns.{magnitude_zero, magnitude_one}
 use Rattle.binary16.specs.Faint.{below_unit, above_half, faint, original_half}
@@ -32,5 +33,5 @@ unfolding half_of original_half
 inside bits h =
     let x = of_bits binary32 bits in
     let z = bits / 0x80000000 * 0x8000 in
-    let e = and_left (below_unit x) (above_half x) h in
-    (ap (λ (y : ℕ). z + y) (below_code x e ∙ ap (λ (b : Bool). pick b 1 0) (and_right (below_unit x) (above_half x) h)), ap (λ (a : Bool). pick a z (z + code_of x)) e)
+    let e = (and_parts (below_unit x) (above_half x) h).0 in
+    (ap (λ (y : ℕ). z + y) (below_code x e ∙ ap (λ (b : Bool). pick b 1 0) (and_parts (below_unit x) (above_half x) h).1), ap (λ (a : Bool). pick a z (z + code_of x)) e)

@@ -6,9 +6,10 @@ use Rattle.std.specs.Float.Ieee.{up, down, size, of_bits}
 use Rattle.std.specs.Float.Ieee.Digits.{size-lt, size_reaches}
 use Rattle.std.specs.Float.Ieee.Fits.{down_pos}
 use Rattle.std.specs.Float.Ieee.Nearest.{closest}
-use Rattle.words.specs.Tests.{pick, split}
+use Rattle.std.proofs.lemmas.Bool.{cases_lt}
+use Rattle.words.specs.Tests.{pick}
 use Rattle.channels.specs.Nearest.{apart, NearestEven}
-use Rattle.channels.specs.Even.{rounds, closest_even}
+use Rattle.channels.specs.Even.{rounds, closest_even, apart_two}
 use Rattle.binary16.specs.Units.{units_fields, units_lt}
 use Rattle.binary16.specs.Half.{half_units, largest, GivesWay, NearestHalf, overflow, OfMagnitude, CodeOf, HalfOf, nearest_half, magnitude_code, code_of, half_of}
 
@@ -40,7 +41,7 @@ row_lower i u = units_fields 1024 0 i u ∙ sym (mul-one i)
 row : (x i : ℕ) → (x ≡ 0) ⊎ (1024 ≤ i) → i ≤ 2048 → half_units (x * 1024 + i) ≡ i * 2 ^ x
 row x i h u = elim (eq-or-lt_of_le u) [
   | inl e ↦ subst (λ (z : ℕ). half_units (x * 1024 + z) ≡ z * 2 ^ x) (sym e) (row_end x)
-  | inr l ↦ elim (split i 1024) [
+  | inr l ↦ elim (cases_lt i 1024) [
     | inr g ↦ row_upper x i g l
     | inl g ↦ elim h [
       | inl z ↦ subst (λ (y : ℕ). half_units (y * 1024 + i) ≡ i * 2 ^ y) (sym z) (row_lower i g)
@@ -59,7 +60,7 @@ record Row (n d x q : ℕ) : Type 0 where
 
 -- no number of steps lies nearer than q
 steps : (n D q i : ℕ) → NearestEven n D q → apart (q * D) n ≤ apart (i * D) n
-steps n D q i E = elim (split i q) [
+steps n D q i E = elim (cases_lt i q) [
   | inl l ↦ ends (E.others i (λ e. lt_irrefl i (subst (λ (z : ℕ). i < z) (sym e) l)))
   | inr l ↦ elim (eq-or-lt_of_le l) [
     | inl e ↦ le_of_eq (ap (λ (z : ℕ). apart (z * D) n) e)
@@ -114,9 +115,9 @@ module _ (n d x q : ℕ) (D : 0 < d) (R : Row n d x q) where
       inl (subst (λ (z : ℕ). apart z n < apart (half_units j * d) n) (sym own) (beyond_below (q * (d * 2 ^ x)) (1024 * (d * 2 ^ x)) (half_units j * d) n g M' (steps n (d * 2 ^ x) q 1024 R.even)))
 
   all_others : (j : ℕ) → (j ≡ x * 1024 + q → ⊥) → GivesWay n d (x * 1024 + q) j
-  all_others j ne = elim (split (x * 1024 + 2048) j) [
+  all_others j ne = elim (cases_lt (x * 1024 + 2048) j) [
     | inl l ↦ after j l
-    | inr l ↦ elim (split j (x * 1024 + 1024)) [
+    | inr l ↦ elim (cases_lt j (x * 1024 + 1024)) [
       | inr g ↦ shifted (inr (omega arith)) (omega arith) l
       | inl g ↦ elim R.low [
         | inl z ↦ shifted (inl z) (omega arith) l
@@ -145,13 +146,13 @@ row_low n d x D h =
     ((le-div_iff_mul-le {k = d} {x = 2 ^ (10 + x)} {y = n} D).0 (size_reaches (n / d) (10 + x) h))
 
 count_most : (q D n : ℕ) → 0 < D → 2 * (q * D) ≤ 2 * n + D → n ≤ 2048 * D → q ≤ 2048
-count_most q D n P h l = elim (split 2048 q) [
+count_most q D n P h l = elim (cases_lt 2048 q) [
   | inr g ↦ g
   | inl g ↦ absurd (omega (arith, mul-le-mul_right D g))
 ]
 
 count_least : (q D n : ℕ) → 0 < D → 2 * n ≤ 2 * (q * D) + D → 1024 * D ≤ n → 1024 ≤ q
-count_least q D n P h l = elim (split q 1024) [
+count_least q D n P h l = elim (cases_lt q 1024) [
   | inr g ↦ g
   | inl g ↦ absurd (omega (arith, mul-le-mul_right D g, suc-mul q D))
 ]
@@ -162,7 +163,7 @@ found_row n d P =
     let D = d * 2 ^ x in
     let r = rounds n D (mul-pos P (pow_pos x)) in
     let h : n ≤ 2048 * D = row_high n d x P (omega arith) in
-    let l : (x ≡ 0) ⊎ (1024 * D ≤ n) = elim (split 11 (size (n / d))) [ inl g ↦ inr (row_low n d x P (omega arith)) | inr g ↦ inl (omega arith) ] in
+    let l : (x ≡ 0) ⊎ (1024 * D ≤ n) = elim (cases_lt 11 (size (n / d))) [ inl g ↦ inr (row_low n d x P (omega arith)) | inr g ↦ inl (omega arith) ] in
     record {
       even = closest_even n D (mul-pos P (pow_pos x));
       high = h;
@@ -173,7 +174,7 @@ found_row n d P =
 
 -- below 65520 the code is finite
 row_finite : (n d x q : ℕ) → 0 < d → Row n d x q → 2 * (q * (d * 2 ^ x)) ≤ 2 * n + d * 2 ^ x → n < overflow * d → x * 1024 + q ≤ largest
-row_finite n d x q P R below h = elim (split x 29) [
+row_finite n d x q P R below h = elim (cases_lt x 29) [
   | inl l ↦ omega (arith, R.most)
   | inr l ↦ elim (eq-or-lt_of_le l) [
     | inl e ↦ at_29 (sym e)
@@ -182,7 +183,7 @@ row_finite n d x q P R below h = elim (split x 29) [
 ]
   where
     last : (q d n : ℕ) → 0 < d → 2 * (q * (d * 536870912)) ≤ 2 * n + d * 536870912 → n < overflow * d → q ≤ 2047
-    last q d n D b h = elim (split 2047 q) [ inr g ↦ g | inl g ↦ absurd (omega (arith, mul-le-mul_right (d * 536870912) g)) ]
+    last q d n D b h = elim (cases_lt 2047 q) [ inr g ↦ g | inl g ↦ absurd (omega (arith, mul-le-mul_right (d * 536870912) g)) ]
 
     at_29 : x ≡ 29 → x * 1024 + q ≤ largest
     at_29 e = omega (arith, last q d n P (subst (λ (z : ℕ). 2 * (q * (d * 2 ^ z)) ≤ 2 * n + d * 2 ^ z) e below) h)
@@ -222,7 +223,7 @@ code_of_lem (inf s) = refl
 code_of_lem (fin s m e) = magnitude_of (m * up e * 2 ^ 24) (down e) (down_pos e)
 
 magnitude_small : (n d k : ℕ) → OfMagnitude n d k → k < 0x8000
-magnitude_small n d k M = elim (split n (overflow * d)) [
+magnitude_small n d k M = elim (cases_lt n (overflow * d)) [
   | inr h ↦ omega (arith, M.overflows h)
   | inl h ↦ omega (arith, (M.nearest h).finite)
 ]
@@ -249,14 +250,11 @@ between X Y Z n h l e = omega arith
 no_two : (n d k j : ℕ) → 0 < d → NearestHalf n d k → j ≤ largest → k < j → apart (half_units k * d) n ≡ apart (half_units j * d) n → k % 2 ≡ 1 → j % 2 ≡ 1 → ⊥
 no_two n d k j D R J h e p q = no (R.others (suc k) (le_trans h J) (λ (z : suc k ≡ k). lt_irrefl k (le_of_eq z)))
   where
-    skips : (k j : ℕ) → k < j → k % 2 ≡ 1 → j % 2 ≡ 1 → suc k < j
-    skips k j h p q = omega arith
-
     rises : (a b : ℕ) → a < b → half_units a * d < half_units b * d
     rises a b l = mul-lt-mul_of_pos_right (units_lt 1024 a b (lit< tt) l) D
 
     nearer : apart (half_units (suc k) * d) n < apart (half_units k * d) n
-    nearer = between (half_units k * d) (half_units j * d) (half_units (suc k) * d) n (rises k (suc k) (omega arith)) (rises (suc k) j (skips k j h p q)) e
+    nearer = between (half_units k * d) (half_units j * d) (half_units (suc k) * d) n (rises k (suc k) (omega arith)) (rises (suc k) j (apart_two k j h p q)) e
 
     no : GivesWay n d k (suc k) → ⊥
     no (inl l) = lt_irrefl (apart (half_units k * d) n) (lt_trans l nearer)
@@ -274,16 +272,16 @@ lower_wins n d k j D R S h =
     clash (inr l) (inr m) = no_two n d k j D R S.finite h l.0 m.1 l.1
 
 pub one_half : (n d k j : ℕ) → 0 < d → NearestHalf n d k → NearestHalf n d j → k ≡ j
-one_half n d k j D R S = elim (split k j) [
+one_half n d k j D R S = elim (cases_lt k j) [
   | inl h ↦ absurd (lower_wins n d k j D R S h)
-  | inr h ↦ elim (split j k) [
+  | inr h ↦ elim (cases_lt j k) [
     | inl g ↦ absurd (lower_wins n d j k D S R g)
     | inr g ↦ omega arith
   ]
 ]
 
 one_magnitude : (n d k j : ℕ) → 0 < d → OfMagnitude n d k → OfMagnitude n d j → k ≡ j
-one_magnitude n d k j D R S = elim (split n (overflow * d)) [
+one_magnitude n d k j D R S = elim (cases_lt n (overflow * d)) [
   | inr h ↦ R.overflows h ∙ sym (S.overflows h)
   | inl h ↦ one_half n d k j D (R.nearest h) (S.nearest h)
 ]

@@ -9,10 +9,11 @@ use Rattle.std.specs.Float.Ieee.Bits.{cond_no, nan_bits_is, nan_bits_above}
 use Rattle.std.specs.Float.Ieee.Exact.{HasValue, odd_sign}
 use Rattle.std.specs.Float.Ieee.Fits.{down_pos}
 use Rattle.std.specs.Float.Ieee.Nearest.{closest, closest_same, div_same}
-use Rattle.std.proofs.lemmas.Bool.{lt-leb}
-use Rattle.words.specs.Tests.{pick, leb_same, split}
+use Rattle.std.proofs.lemmas.Bool.{lt-leb, cases_lt}
+use Rattle.words.specs.Tests.{pick, leb_same}
 use Rattle.binary16.specs.Units.{units_at, units_of, units_lt, units_le}
 use Rattle.channels.specs.Even.{Rounds, rounds}
+use Rattle.channels.specs.Floats.{differ, digits}
 use Rattle.binary16.specs.Half.{overflow, nearest_half, magnitude_code, code_of}
 
 -- ---- two names of one fraction have one code
@@ -51,9 +52,6 @@ code_by_value (fin t m e) s v c h C =
 -- ---- the number of a binary32 pattern in units of 2^-149; h is 2^23
 abbrev pub float_units : ℕ → ℕ
 float_units = units_of 8388608
-
-differ : (x : ℕ) → suc x < 255 → suc x ≡ 255 → ⊥
-differ x h e = omega arith
 
 fields_value : (s : Bool) (e t : ℕ) → e < 255 → HasValue (of_fields binary32 s e t) s (units_at 8388608 e t) (2 ^ 149)
 unfolding of_fields
@@ -138,9 +136,9 @@ magnitude_rounds n d l = ap (λ (a : Bool). pick a 0x7c00 (nearest_half n d)) (l
 
 -- below one unit: what is not above half of one gives 0, a half too, since 0 is even, and all else gives 1
 closest_zero : (k n d p : ℕ) → 0 < d → Rounds n d k p → p ≡ k * d → 2 * n ≤ d → k ≡ 0
-closest_zero k n d p D R e h = elim (split 0 k) [
+closest_zero k n d p D R e h = elim (cases_lt 0 k) [
   | inr l ↦ omega arith
-  | inl l ↦ elim (split 1 k) [
+  | inl l ↦ elim (cases_lt 1 k) [
     | inl g ↦ absurd (omega (arith, R.below, e, mul-le-mul_right d g))
     | inr g ↦ absurd (omega (arith, e, R.tie_up (omega (arith, e, R.below, ap (λ (z : ℕ). z * d) (one k l g)))))
   ]
@@ -150,9 +148,9 @@ closest_zero k n d p D R e h = elim (split 0 k) [
     one k l g = omega arith
 
 closest_one : (k n d p : ℕ) → 0 < d → Rounds n d k p → p ≡ k * d → d < 2 * n → n < d → k ≡ 1
-closest_one k n d p D R e h l = elim (split 0 k) [
+closest_one k n d p D R e h l = elim (cases_lt 0 k) [
   | inr g ↦ absurd (omega (arith, e, R.above, mul-le-mul_right d g))
-  | inl g ↦ elim (split 1 k) [
+  | inl g ↦ elim (cases_lt 1 k) [
     | inl f ↦ absurd (omega (arith, e, R.below, mul-le-mul_right d f))
     | inr f ↦ omega arith
   ]
@@ -219,7 +217,7 @@ module _ (m y : ℕ) (l : 2 ^ 23 ≤ m) (u : m < 2 ^ 24) (h : 102 ≤ y) where
   dropped = counts (size (m * 2 ^ y / 2 ^ 125)) y h (size-le (m * 2 ^ y / 2 ^ 125) (y - 101) shift_down) (reaches (m * 2 ^ y / 2 ^ 125) (y - 102) shift_up)
     where
       reaches : (n j : ℕ) → 2 ^ j ≤ n → j < size n
-      reaches n j g = elim (split j (size n)) [ inl a ↦ a | inr a ↦ absurd (not-le_of_lt (lt_of_lt_of_le (size-lt n) (pow_mono a)) g) ]
+      reaches n j g = elim (cases_lt j (size n)) [ inl a ↦ a | inr a ↦ absurd (not-le_of_lt (lt_of_lt_of_le (size-lt n) (pow_mono a)) g) ]
 
       counts : (z y : ℕ) → 102 ≤ y → z ≤ y - 101 → y - 102 < z → z - 11 ≡ y - 112
       counts z y h a b = omega arith
@@ -249,9 +247,6 @@ rounded_code a s h l e =
   where
     lead : (a : ℕ) → 2 ^ 23 ≤ 8388608 + a % 8388608
     lead a = omega arith
-
-    digits : (a : ℕ) → 8388608 + a % 8388608 < 2 ^ 24
-    digits a = omega arith
 
     deep : (a : ℕ) → 0x33800000 ≤ a → 102 ≤ a / 8388608 - 1
     deep a h = omega arith

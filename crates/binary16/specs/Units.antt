@@ -3,7 +3,7 @@
 use Rattle.std.specs.Prelude.{◌≡◌, ◌⊎◌, ℕ, zero, suc, ◌+◌, ◌*◌, ◌/◌, ◌%◌, ◌^◌, ◌≤◌, ◌<◌}
 use Rattle.std.proofs.Common.{sym, ap, ap₂, ◌∙◌, subst, inl, inr, le_trans, lt_of_lt_of_le, le_of_eq, mod-lt, div-add-mod', mul_assoc, mul-one, mul-le-mul_right, mul-le-mul_left, mul-lt-mul_of_pos_right, eq-or-lt_of_le, le-add_right, arith, pow-add, pow_pos, pow_mono}
 use Rattle.std.proofs.Math.Arith.{digits_div, digits_mod}
-use Rattle.words.specs.Tests.{split}
+use Rattle.std.proofs.lemmas.Bool.{cases_lt}
 
 -- an exponent's field e and a fraction t below h: t with the field 0, and else (h + t) × 2^(e - 1)
 abbrev pub units_at : (h e t : ℕ) → ℕ
@@ -53,7 +53,7 @@ fields_lt h e s f t p q (inr w) = subst (λ (z : ℕ). units_at h e s < units_at
 -- THE ORDER
 pub units_lt : (h j k : ℕ) → 0 < h → j < k → units_of h j < units_of h k
 unfolding units_of
-units_lt h j k H l = fields_lt h (j / h) (j % h) (k / h) (k % h) (mod-lt j H) (mod-lt k H) (which (split (j / h) (k / h)))
+units_lt h j k H l = fields_lt h (j / h) (j % h) (k / h) (k % h) (mod-lt j H) (mod-lt k H) (which (cases_lt (j / h) (k / h)))
   where
     lex : (a b s t : ℕ) → b ≤ a → a * h + s < b * h + t → s < h → t < h → (a ≡ b) × (s < t)
     lex a b s t g m p q = elim (eq-or-lt_of_le g) [

@@ -13,7 +13,7 @@ const SMALLEST_NORMAL: u32 = 113;
 
 // The binary16 code of a binary32 pattern from 2^-24 to below 65520. A normal number drops 13 digits of its 24; a subnormal one
 // drops more. A carry out of the fraction adds one to the exponent's field.
-#[tactic(auto, using(crate::specs::Patterns::rounded_code))]
+#[tactic(auto, using(crate::specs::Patterns::rounded_code, crate::proofs::CodeLaws::normal_code))]
 fn nearest_f16(bits: u32) -> u32
     requires { (0x33800000 ≤ bits) × (bits < 0x477ff000) }
     ensures { result ≡ code_of (of_bits binary32 bits) }
@@ -42,6 +42,7 @@ const TIE_WITH_ZERO: u32 = 0x3300_0000;
 
 // A binary32 pattern as the binary16 pattern of the nearest number, a tie to the even code. From 65520 on it is an infinity, up to
 // 2^-25 a zero, and a NaN is 7E00; the sign stays.
+#[tactic(auto, using(crate::proofs::CodeLaws::half_sum, crate::proofs::CodeLaws::is_half, crate::proofs::CodeLaws::signless, crate::proofs::HalfLaws::code_small, crate::specs::Patterns::nan_code, crate::specs::Patterns::overflow_code, crate::specs::Patterns::zero_code, crate::specs::Patterns::unit_code))]
 pub fn f32_to_f16_bits(bits: u32) -> u16
     ensures is { result ≡ half_of bits }
     ensures nearest { HalfOf bits result }

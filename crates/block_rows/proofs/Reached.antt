@@ -22,9 +22,9 @@ pub record Reached (src : List ℕ) (s d : ℕ) (r : ConvertRegion) (z row col f
   pub written : dst ≡ iterate (written bt601 src s d r z row) col dst₀
 
 -- the part of the block for column col: some words, and no more than texels are left
-pub part_of : (col width n : ℕ) (l : List ℕ) → col < width → n ≡ min (width - col) 64 → 64 ≤ length l
+pub part_of : {col width n : ℕ} (l : List ℕ) → col < width → n ≡ min (width - col) 64 → 64 ≤ length l
     → (0 < length (take n l)) × (col + length (take n l) ≤ width) × (length (take n l) ≡ min (width - col) 64)
-part_of col width n l h e r =
+part_of {col} {width} {n} l h e r =
     let held : length (take n l) ≡ n = length-take-le n l (omega arith) in
     (omega arith, omega arith, held ∙ e)
 

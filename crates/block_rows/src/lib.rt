@@ -8,15 +8,12 @@ ghost use Rattle.yuv_sets.specs.declared.YuvSet.{YuvSet};
 ghost use Rattle.regions.specs.Regions.{row_written};
 ghost use Rattle.regions.specs.Rows.{RowFits};
 
-use convert_reply::RegionRow;
+use convert_reply::{LaneTexels, RegionRow, RgbTexels};
 use formats::{LaneSource, RgbFormat};
 
-mod sized;
-
-pub use sized::{LaneTexels, RgbTexels};
-
 // A row of a source with lanes, block by block; A8R8G8B8 goes without one. Both offsets are worked out for the row's first texel and
-// carried from there: each loop adds the texel size.
+// carried from there (docs/changes/02-step-along-the-row.md): each call gives back where the next texel starts.
+// `RowFits` is asked as in yuv_texels. A block that is an array of 64 words would ask more of callers than a slice of 64 or more does.
 pub fn block_row(
     block: &mut [u32],
     dst: &mut [u8],

@@ -5,8 +5,7 @@ use Rattle.std.specs.Prelude.{◌≡◌, refl, List, ◌++◌, ℕ, ◌+◌, ◌
 use Rattle.std.proofs.Common.{sym, ap, ◌∙◌, subst, ⊎_elim, add-mul, mul-le-mul_right, arith, length-drop, length-append, get_or-set_same, get_or-set_other}
 use Rattle.std.proofs.lemmas.List.{get_or_append_left}
 use Rattle.std.proofs.lemmas.List.Edits.{sets}
-use Rattle.words.specs.Little.{number, number_split}
-use Rattle.words.specs.Slices.{part_read}
+use Rattle.words.specs.Little.{number, number_rest, number_split}
 use Rattle.words.specs.Iterate.{iterate}
 use Rattle.words.proofs.IterateLaws.{iterate_step}
 use Rattle.words.specs.Tests.{lt_or_eq}
@@ -64,10 +63,14 @@ each_in len from step n r k h =
     let l : (k + 1) * step ≤ n * step = mul-le-mul_right step (omega (arith, h)) in
     omega (arith, once_more from step k (from + k * step) refl, l, r)
 
+-- and so does the k-th from where it starts, however long the whole is called
+pub room : (len now to size n k off : ℕ) → now ≡ len → to + n * size ≤ len → k < n → off ≡ to + k * size → off + size ≤ now
+room len now to size n k off s r l e = omega (arith, s, e, each_in len to size n r k l)
+
 -- the word that is read from the part of the source that starts at a byte
 word_read : (src : List ℕ) (f off : ℕ) → encoded_of A8R8G8B8 (decoded_of f (number (take (bytes_of f) (take (length src - off) (drop off src))))) ≡ word_from src f off
 unfolding word_from
-word_read src f off = ap (λ (m : List ℕ). encoded_of A8R8G8B8 (decoded_of f (number (take (bytes_of f) m)))) (part_read src off)
+word_read src f off = ap (λ w. encoded_of A8R8G8B8 (decoded_of f w)) (number_rest (bytes_of f) off src)
 
 pub read_more : (src : List ℕ) (f step from i : ℕ) (block : List ℕ) (off w : ℕ) → BlockRead src f step from i block off → i < length block → w ≡ word_from src f off
     → BlockRead src f step from (i + 1) (set block i w) (off + step)

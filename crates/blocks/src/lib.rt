@@ -10,7 +10,15 @@ ghost use Rattle.formats.specs.Table.{bytes_of};
 ghost use Rattle.formats.specs.Formats.{rgb_code, code_source_code, lane_source_code};
 ghost use Rattle.blocks.specs.Blocks.{TexelsIn, BlockRead, WordsWritten, AnswersWritten, word_of, word_in};
 
+use formats::LaneSource::{Codes, Floats, Rgb};
 use formats::{CodeSource, LaneSource, RgbFormat};
+
+// The offset is carried by hand, here and in `write_block`: a row's offsets are to be carried, with no addition past 64 bits
+// (docs/changes/02-step-along-the-row.md). Nor are texels chunks: R8G8B8 is read four bytes every three, so its parts overlap, and of what
+// a loop writes through `chunks_exact_mut` a proof learns the length alone (tried: which bytes are there stayed open).
+
+// That so many bytes or texels are there is asked in each contract: it speaks of the length of what is lent and of a format known at
+// run time, whose size no array type has.
 
 // ---- reading
 
@@ -27,37 +35,9 @@ fn read_block(block: &mut [u32], src: &[u8], format: LaneSource, step: usize, fr
     off
 }
 
-// Two such: one function over `Into<LaneSource>` would state its contract by what `into` may give, and so would each of its calls.
-// The same of an RGB format.
-fn read_rgb_block(
-    block: &mut [u32],
-    src: &[u8],
-    format: RgbFormat,
-    step: usize,
-    from: usize,
-) -> usize
-    requires { (step ≤ bytes_of (rgb_code format)) × TexelsIn (length src.now) from step (bytes_of (rgb_code format)) (length block.old) }
-    ensures { BlockRead src.now (rgb_code format) step from (length block.old) block.new result }
-{
-    read_block(block, src, LaneSource::Rgb(format), step, from)
-}
-
-// The same of a source of whole numbers.
-fn read_code_block(
-    block: &mut [u32],
-    src: &[u8],
-    format: CodeSource,
-    step: usize,
-    from: usize,
-) -> usize
-    requires { (step ≤ bytes_of (code_source_code format)) × TexelsIn (length src.now) from step (bytes_of (code_source_code format)) (length block.old) }
-    ensures { BlockRead src.now (code_source_code format) step from (length block.old) block.new result }
-{
-    read_block(block, src, LaneSource::Codes(format), step, from)
-}
-
-// No type for a block that is not empty, which this function and the three that call it ask for: `block_row` cuts each part itself and
-// knows it, and a type would be taken apart in all four.
+// No type for a block that is not empty, which four functions ask for: `block_row` cuts each part itself and knows it, and a type would be
+// taken apart in all four. Nor for a buffer with its format and its place, in these and in those that write: each arm hands the format on
+// anew, as a literal, so that a struct would be taken apart and made again in each.
 
 // The same of R8G8B8. All but the last texel are read as X8R8G8B8, with the byte after their three: one load does for it.
 #[tactic(auto, unfolding(formats::specs::Table::bytes_of, formats::specs::Table::parts_of))]
@@ -66,13 +46,13 @@ fn read_r8g8b8(block: &mut [u32], src: &[u8], from: usize) -> usize
     ensures { BlockRead src.now R8G8B8 3 from (length block.old) block.new result }
 {
     let last = block.len() - 1;
-    let off = read_rgb_block(&mut block[..last], src, RgbFormat::X8R8G8B8, 3, from);
-    block[last] = texel_words::read_word(LaneSource::Rgb(RgbFormat::R8G8B8), &src[off..]);
+    let off = read_block(&mut block[..last], src, Rgb(RgbFormat::X8R8G8B8), 3, from);
+    block[last] = texel_words::read_word(Rgb(RgbFormat::R8G8B8), &src[off..]);
     off + 3
 }
 
 // As many texels of an RGB format from byte `from` on. Each arm hands its format and its size on as literals, so that the compiler makes a
-// loop of its own for it.
+// loop of its own for it. A trait of formats would have an impl for each of the twelve, and here still a match, to choose one at run time.
 #[tactic(auto, using(crate::specs::Blocks::each_in), unfolding(formats::specs::Table::bytes_of, formats::specs::Table::parts_of))]
 fn read_rgb(block: &mut [u32], src: &[u8], format: RgbFormat, from: usize) -> usize
     requires { (0 < length block.old) × (from + length block.old * bytes_of (rgb_code format) ≤ length src.now) }
@@ -80,47 +60,54 @@ fn read_rgb(block: &mut [u32], src: &[u8], format: RgbFormat, from: usize) -> us
 {
     match format {
         RgbFormat::R8G8B8 => read_r8g8b8(block, src, from),
-        RgbFormat::A8R8G8B8 => read_rgb_block(block, src, RgbFormat::A8R8G8B8, 4, from),
-        RgbFormat::X8R8G8B8 => read_rgb_block(block, src, RgbFormat::X8R8G8B8, 4, from),
-        RgbFormat::R5G6B5 => read_rgb_block(block, src, RgbFormat::R5G6B5, 2, from),
-        RgbFormat::X1R5G5B5 => read_rgb_block(block, src, RgbFormat::X1R5G5B5, 2, from),
-        RgbFormat::A1R5G5B5 => read_rgb_block(block, src, RgbFormat::A1R5G5B5, 2, from),
-        RgbFormat::A4R4G4B4 => read_rgb_block(block, src, RgbFormat::A4R4G4B4, 2, from),
-        RgbFormat::A8 => read_rgb_block(block, src, RgbFormat::A8, 1, from),
-        RgbFormat::A8B8G8R8 => read_rgb_block(block, src, RgbFormat::A8B8G8R8, 4, from),
-        RgbFormat::X8B8G8R8 => read_rgb_block(block, src, RgbFormat::X8B8G8R8, 4, from),
-        RgbFormat::L8 => read_rgb_block(block, src, RgbFormat::L8, 1, from),
-        RgbFormat::A8L8 => read_rgb_block(block, src, RgbFormat::A8L8, 2, from),
+        RgbFormat::A8R8G8B8 => read_block(block, src, Rgb(RgbFormat::A8R8G8B8), 4, from),
+        RgbFormat::X8R8G8B8 => read_block(block, src, Rgb(RgbFormat::X8R8G8B8), 4, from),
+        RgbFormat::R5G6B5 => read_block(block, src, Rgb(RgbFormat::R5G6B5), 2, from),
+        RgbFormat::X1R5G5B5 => read_block(block, src, Rgb(RgbFormat::X1R5G5B5), 2, from),
+        RgbFormat::A1R5G5B5 => read_block(block, src, Rgb(RgbFormat::A1R5G5B5), 2, from),
+        RgbFormat::A4R4G4B4 => read_block(block, src, Rgb(RgbFormat::A4R4G4B4), 2, from),
+        RgbFormat::A8 => read_block(block, src, Rgb(RgbFormat::A8), 1, from),
+        RgbFormat::A8B8G8R8 => read_block(block, src, Rgb(RgbFormat::A8B8G8R8), 4, from),
+        RgbFormat::X8B8G8R8 => read_block(block, src, Rgb(RgbFormat::X8B8G8R8), 4, from),
+        RgbFormat::L8 => read_block(block, src, Rgb(RgbFormat::L8), 1, from),
+        RgbFormat::A8L8 => read_block(block, src, Rgb(RgbFormat::A8L8), 2, from),
     }
 }
 
-// The same of a source of whole numbers.
+// The same of a source of whole numbers, likewise.
 #[tactic(auto, using(crate::specs::Blocks::each_in), unfolding(formats::specs::Table::bytes_of, formats::specs::Table::parts_of))]
 fn read_codes(block: &mut [u32], src: &[u8], format: CodeSource, from: usize) -> usize
     requires { (0 < length block.old) × (from + length block.old * bytes_of (code_source_code format) ≤ length src.now) }
     ensures { BlockRead src.now (code_source_code format) (bytes_of (code_source_code format)) from (length block.old) block.new result }
 {
     match format {
-        CodeSource::A16B16G16R16 => read_code_block(block, src, CodeSource::A16B16G16R16, 8, from),
-        CodeSource::A2R10G10B10 => read_code_block(block, src, CodeSource::A2R10G10B10, 4, from),
-        CodeSource::A2B10G10R10 => read_code_block(block, src, CodeSource::A2B10G10R10, 4, from),
-        CodeSource::G16R16 => read_code_block(block, src, CodeSource::G16R16, 4, from),
-        CodeSource::L16 => read_code_block(block, src, CodeSource::L16, 2, from),
-        CodeSource::V8U8 => read_code_block(block, src, CodeSource::V8U8, 2, from),
-        CodeSource::Q8W8V8U8 => read_code_block(block, src, CodeSource::Q8W8V8U8, 4, from),
+        CodeSource::A16B16G16R16 => read_block(
+            block,
+            src,
+            Codes(CodeSource::A16B16G16R16),
+            8,
+            from,
+        ),
+        CodeSource::A2R10G10B10 => read_block(block, src, Codes(CodeSource::A2R10G10B10), 4, from),
+        CodeSource::A2B10G10R10 => read_block(block, src, Codes(CodeSource::A2B10G10R10), 4, from),
+        CodeSource::G16R16 => read_block(block, src, Codes(CodeSource::G16R16), 4, from),
+        CodeSource::L16 => read_block(block, src, Codes(CodeSource::L16), 2, from),
+        CodeSource::V8U8 => read_block(block, src, Codes(CodeSource::V8U8), 2, from),
+        CodeSource::Q8W8V8U8 => read_block(block, src, Codes(CodeSource::Q8W8V8U8), 4, from),
     }
 }
 
-// As many texels as `block` has words, from byte `from` on; returns where the next one starts.
+// As many texels as `block` has words, from byte `from` on; returns where the next one starts. A match, as in
+// `read_rgb`: each variant holds formats of its own.
 #[tactic(auto, using(crate::specs::Blocks::each_in), unfolding(formats::specs::Table::bytes_of, formats::specs::Table::parts_of))]
 pub fn read_texels(block: &mut [u32], src: &[u8], format: LaneSource, from: usize) -> usize
     requires { (0 < length block.old) × (from + length block.old * bytes_of (lane_source_code format) ≤ length src.now) }
     ensures { BlockRead src.now (lane_source_code format) (bytes_of (lane_source_code format)) from (length block.old) block.new result }
 {
     match format {
-        LaneSource::Rgb(rgb) => read_rgb(block, src, rgb, from),
-        LaneSource::Codes(codes) => read_codes(block, src, codes, from),
-        LaneSource::Floats => read_block(block, src, LaneSource::Floats, 16, from),
+        Rgb(rgb) => read_rgb(block, src, rgb, from),
+        Codes(codes) => read_codes(block, src, codes, from),
+        Floats => read_block(block, src, Floats, 16, from),
     }
 }
 
@@ -149,7 +136,7 @@ fn write_block<W: Fn(usize) -> u32>(
     off
 }
 
-// The same for the format at hand, which each arm hands on as a literal.
+// The same for the format at hand, which each arm hands on as a literal, as in `read_rgb`.
 #[tactic(auto, unfolding(formats::specs::Table::bytes_of, formats::specs::Table::parts_of))]
 fn write_words<W: Fn(usize) -> u32>(
     word: W,
@@ -186,7 +173,9 @@ pub fn write_texels(block: &[u32], dst: &mut [u8], format: RgbFormat, to: usize)
     write_words(|k| block[k], block.len(), dst, format, to)
 }
 
-// The same of A8R8G8B8 texels from byte `from` of the source on. They need no block: they are such words where they lie.
+// The same of A8R8G8B8 texels from byte `from` of the source on. They need no block: they are such words where they lie, and each is read
+// at its own number, while the destination's offset is carried: a closure that carried the source's would have to change it, and
+// `write_block` takes an `Fn`.
 pub fn rewrite_texels(
     n: usize,
     src: &[u8],

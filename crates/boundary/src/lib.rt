@@ -48,7 +48,8 @@ pub fn region_of(
 
 // ---- planar layouts
 
-// The values of an answer, and its number.
+// The values of an answer, and its number. `put_planar` and `put_planes` stay two: by `Into<[u64; 4]>` they would be one, but then each
+// layout's crate would hold the order in which the C interface takes its values.
 pub fn put_planar(answer: Result<PlanarYuvLayout, NoPlanarLayout>, layout: &mut [u64; 4]) -> u32
     ensures reply { result ≡ (reply_of answer).number }
     ensures values { layout.new ≡ planar_values (reply_of answer) }
@@ -70,7 +71,8 @@ pub fn put_planar(answer: Result<PlanarYuvLayout, NoPlanarLayout>, layout: &mut 
 
 // ---- fills
 
-// The bytes and the length of a fill, and its number.
+// The bytes and the length of a fill, and its number: the C interface takes both. By `put_values` it would be a tuple, made here and taken
+// apart there.
 pub fn put_fill(fill: Result<FillPixel, NoFill>, bytes: &mut [u8; 16], length: &mut u32) -> u32
     ensures reply { result ≡ (handed fill).reply }
     ensures values { bytes.new ≡ (handed fill).bytes }
@@ -115,7 +117,7 @@ pub fn put_planes(answer: Result<PlaneLayout, PlaneLayoutRefusal>, layout: &mut 
 
 // ---- replies
 
-// The number of a reply: 0 for acceptance, else the refusal's.
+// The number of a reply, as the C interface has it: 0 for acceptance, else the refusal's.
 pub fn reply_number<E: Into<u32>>(reply: Result<(), E>) -> u32
     ensures accepted { IfOk reply (λ _. result ≡ 0) }
     ensures refused { IfErr reply (λ e. E.converts e result) }
@@ -127,6 +129,7 @@ pub fn reply_number<E: Into<u32>>(reply: Result<(), E>) -> u32
 }
 
 // The four values of an answer, which are zeros where it is refused, and its number.
+// There are two arrays of four since the C interface lends one, which is written where the answer is refused too: it cannot be the answer's.
 pub fn put_values<E: Into<u32>>(answer: Result<[u64; 4], E>, values: &mut [u64; 4]) -> u32
     ensures answered { IfOk answer (λ v. (values.new ≡ v) × (result ≡ 0)) }
     ensures refused { IfErr answer (λ e. (values.new ≡ 0 ∷ 0 ∷ 0 ∷ 0 ∷ []) × E.converts e result) }

@@ -1,7 +1,7 @@
 -- How near each way of reading or writing a channel comes to its exact value. Assumes nothing.
 use Rattle.std.proofs.Common.{◌≡◌, ℕ, ◌*◌, ◌-◌, ◌^◌, ◌≤◌, ◌<◌, inl, inr, arith, le_of_lt, mul_assoc, lt-ltb, le-ltb}
 use Rattle.std.proofs.Math.Path.{refl}
-use Rattle.words.specs.Tests.{split}
+use Rattle.std.proofs.lemmas.Bool.{cases_lt}
 use Rattle.channels.specs.Fractions.{◌over◌, Near, whole_near, near_sym}
 use Rattle.channels.specs.Expansion.{expanded, truncated, expands, truncates}
 use Rattle.channels.specs.Exact.{code_value, not_negative, ones_pos}
@@ -17,7 +17,7 @@ module _ (n k : ℕ) where
   negative h = rw (le-ltb k (2 ^ (n - 1)) h) refl
 
   pub signed_le : not_negative n k ≤ 2 ^ (n - 1) - 1
-  signed_le = elim (split k (2 ^ (n - 1))) [ inl h ↦ omega (arith, positive h) | inr h ↦ omega (arith, negative h) ]
+  signed_le = elim (cases_lt k (2 ^ (n - 1))) [ inl h ↦ omega (arith, positive h) | inr h ↦ omega (arith, negative h) ]
 
 -- an expanded code lies within 3/4 of its value
 pub expanded_near : (n k : ℕ) → 1 ≤ n → n ≤ 8 → k < 2 ^ n → Near 3 (expanded n k over 1) (code_value n k)

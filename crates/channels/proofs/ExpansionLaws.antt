@@ -1,6 +1,6 @@
 -- Laws on what specs/Expansion.antt defines, which rest on laws there. Assumes nothing.
 use Rattle.std.proofs.Common.{◌≡◌, ℕ, ◌*◌, ◌-◌, ◌^◌, ◌≤◌, ◌<◌, sym, ap, ◌∙◌, inl, inr, arith, mul_right_comm}
-use Rattle.words.specs.Tests.{split}
+use Rattle.std.proofs.lemmas.Bool.{cases_lt}
 use Rattle.channels.specs.Nearest.{step}
 use Rattle.channels.specs.Expansion.{expanded, expands}
 
@@ -10,9 +10,9 @@ expanded_whole n k q l u h e =
     let m = 2 ^ n - 1 in
     let o = expands n l u k h in
     let f : 255 * k ≡ q * k * m = ap (λ x. x * k) (sym e) ∙ mul_right_comm q m k in
-    elim (split (expanded n k) (q * k)) [
+    elim (cases_lt (expanded n k) (q * k)) [
       | inl a ↦ absurd (omega (arith, o.not_below, f, step (expanded n k) (q * k) m a))
-      | inr a ↦ elim (split (q * k) (expanded n k)) [
+      | inr a ↦ elim (cases_lt (q * k) (expanded n k)) [
         | inl b ↦ absurd (omega (arith, o.not_above, f, step (q * k) (expanded n k) m b))
         | inr b ↦ omega arith
       ]

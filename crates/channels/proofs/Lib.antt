@@ -2,3 +2,5 @@
 pub mod NearestLaws
 pub mod ExactLaws
 pub mod ExpansionLaws
+pub mod NearestCode
+pub mod ExpandedBits

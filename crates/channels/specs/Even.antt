@@ -9,8 +9,8 @@ use Rattle.std.proofs.Math.Dec.{is_le, compare_is_eq, nleb→lt, eqb_refl}
 use Rattle.std.proofs.Math.Arith.{lt_of_le-ne, digits_div}
 use Rattle.std.specs.Float.Ieee.{nearest}
 use Rattle.std.specs.Float.Ieee.Nearest.{closest}
+use Rattle.std.proofs.lemmas.Bool.{cases_lt}
 use Rattle.channels.specs.Nearest.{apart, NearestEven, step, within_half_lem, rounded, rounded_below, rounded_above}
-use Rattle.words.specs.Tests.{split}
 
 -- ---- what `compare` says
 abbrev Cmp : Ordering → ℕ → ℕ → Type 0
@@ -67,7 +67,8 @@ closest_even n d D =
 between : (X Y Z n d : ℕ) → 0 < d → Z ≡ X + d → Z + d ≤ Y → apart X n ≡ apart Y n → apart Z n < apart X n
 between X Y Z n d D e h l = omega arith
 
-apart_two : (q r : ℕ) → q < r → q % 2 ≡ 1 → r % 2 ≡ 1 → suc q < r
+-- and there is such a number
+pub apart_two : (q r : ℕ) → q < r → q % 2 ≡ 1 → r % 2 ≡ 1 → suc q < r
 apart_two q r h p o = omega arith
 
 no_two : (n d q r : ℕ) → 0 < d → NearestEven n d q → NearestEven n d r → q < r → ⊥
@@ -89,9 +90,9 @@ no_two n d q r D Q R h = clash (Q.others r (λ e. lt_irrefl q (subst (λ z. q < 
 
 -- THE LAW THAT JOINS THE TWO: the predicate has one number, which `closest` computes
 pub only_closest : (n d q : ℕ) → 0 < d → NearestEven n d q → q ≡ closest n d
-only_closest n d q D Q = elim (split q (closest n d)) [
+only_closest n d q D Q = elim (cases_lt q (closest n d)) [
   | inl h ↦ absurd (no_two n d q (closest n d) D Q (closest_even n d D) h)
-  | inr h ↦ elim (split (closest n d) q) [
+  | inr h ↦ elim (cases_lt (closest n d) q) [
     | inl g ↦ absurd (no_two n d (closest n d) q D (closest_even n d D) Q g)
     | inr g ↦ omega arith
   ]
@@ -104,7 +105,7 @@ closest_near n d k h =
     sym (only_closest n d k D (within_half_lem (λ j q. j % 2 ≡ 1) n d k D (omega arith) (omega arith) (λ j e t. omega arith) (λ j e t. omega arith)))
 
 pub closest_le : (n d k : ℕ) → 0 < d → n ≤ k * d → closest n d ≤ k
-closest_le n d k D h = elim (split k (closest n d)) [
+closest_le n d k D h = elim (cases_lt k (closest n d)) [
   | inl l ↦ absurd (omega (arith, (rounds n d D).below, step k (closest n d) d l))
   | inr l ↦ l
 ]
@@ -121,7 +122,7 @@ module _ (q r d h t : ℕ) (D : d ≡ 2 * h) (H : 0 < h) (R : r < d) (P : q % 2 
       ap (λ x. x / d) e ∙ digits_div (suc q) {m = d} {r = r + (h - 1) + t - d} (omega arith)
 
   parity : (t ≡ 0) ⊎ (t ≡ 1)
-  parity = elim (split t 1) [
+  parity = elim (cases_lt t 1) [
     | inl l ↦ inl (omega arith)
     | inr l ↦ inr (omega arith)
   ]
@@ -149,7 +150,7 @@ closest_up n d D even =
 
 -- where a product is even and one factor odd, the other is even
 half_left : (m a x : ℕ) → a % 2 ≡ 1 → m * a ≡ 2 * x → m / 2 * a ≡ x
-half_left m a x o e = elim (split (m % 2) 1) [
+half_left m a x o e = elim (cases_lt (m % 2) 1) [
   | inl l ↦
       let p : m ≡ 2 * (m / 2) = omega arith in
       omega (arith, ap (λ z. z * a) p ∙ mul_assoc 2 (m / 2) a)

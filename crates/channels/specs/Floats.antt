@@ -9,8 +9,8 @@ use Rattle.std.specs.Float.Ieee.{up, down, odd, of_fields, of_bits, is_nan}
 use Rattle.std.specs.Float.Ieee.Fits.{down_pos}
 use Rattle.std.specs.Float.Ieee.Bits.{is_true, is_false, cond_no, nan_bits_is, nan_bits_above}
 use Rattle.std.specs.Float.Ieee.Exact.{HasValue, odd_sign}
+use Rattle.std.proofs.lemmas.Bool.{cases_lt}
 use Rattle.channels.specs.Fractions.{Fraction, ◌over◌}
-use Rattle.words.specs.Tests.{split}
 
 -- the number clamped to 0..1: a NaN and what is negative are 0, what is above one is 1
 abbrev pub clamped : Float → Fraction
@@ -68,7 +68,8 @@ unsigned b h =
     ∙ ap (λ (s : Bool). of_fields binary32 s (b % 2147483648 / 8388608) (b % 8388608)) (is_false (leb 2147483648 b) (not_T (leb 2147483648 b) (λ (u : T (leb 2147483648 b)). not-le_of_lt h (leb→le 2147483648 b u))))
     ∙ ap (λ (x : ℕ). of_fields binary32 false (x / 8388608) (b % 8388608)) (mod-eq_of_lt h)
 
-differ : (x : ℕ) → suc x < 255 → suc x ≡ 255 → ⊥
+-- the field of a finite number is not all ones
+pub differ : (x : ℕ) → suc x < 255 → suc x ≡ 255 → ⊥
 differ x h e = omega arith
 
 at_zero : (t : ℕ) → of_fields binary32 false 0 t ≡ odd 24 false t 0 149
@@ -92,7 +93,8 @@ subnormal b e l =
     (sym (unsigned b l ∙ ap (λ (y : ℕ). of_fields binary32 false y (b % 8388608)) e ∙ at_zero (b % 8388608)))
     (odd_sign 24 false (b % 8388608) 0 149)
 
-digits : (b : ℕ) → 8388608 + b % 8388608 < 2 ^ 24
+-- a normal significand has 24 digits
+pub digits : (b : ℕ) → 8388608 + b % 8388608 < 2 ^ 24
 digits b = omega arith
 
 -- ---- by the range in which a pattern lies
@@ -135,7 +137,7 @@ unfolding of_bits of_fields odd
 zero_clamped = refl
 
 pub as_zero : (b : ℕ) → 2139095040 < b → clamped (of_bits binary32 0) ≡ clamped (of_bits binary32 b)
-as_zero b h = zero_clamped ∙ sym (⊎_elim (nan_pattern b h) (negative_pattern b) (split b 2147483648))
+as_zero b h = zero_clamped ∙ sym (⊎_elim (nan_pattern b h) (negative_pattern b) (cases_lt b 2147483648))
 
 -- one and above, the infinity too: 1
 infinity : of_bits binary32 2139095040 ≡ inf false

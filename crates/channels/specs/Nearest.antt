@@ -3,8 +3,8 @@
 use Rattle.std.specs.Prelude.{◌≡◌, ◌⊎◌, ℕ, suc, ◌+◌, ◌-◌, ◌*◌, ◌/◌, ◌%◌, ◌≤◌, ◌<◌}
 use Rattle.std.proofs.Common.{sym, ap, ◌∙◌, subst, inl, inr, le_trans, le_of_eq, le_of_lt, lt_irrefl, suc-mul, mul_comm, mul_assoc, mul_left_comm, mul_right_comm, mul-add, add-mul, mul-le-mul_right, div-mul-le_self, arith}
 use Rattle.std.proofs.Math.Nat.{eq_of_mul-eq-mul_right, lt-div-mul-add, div-div-eq-div-mul, div-eq_of_lt, add-div_right, mul-div-mul_left, mul-div-mul_right, mul-add-div_right}
-use Rattle.words.specs.Tests.{split}
 use Rattle.std.proofs.Math.Arith.{lt_of_le-ne}
+use Rattle.std.proofs.lemmas.Bool.{cases_lt}
 
 -- how far apart two numbers are
 abbrev pub apart : ℕ → ℕ → ℕ
@@ -50,9 +50,9 @@ module _ (gives-way : ℕ → ℕ → Type 0) (n d q : ℕ) (D : 0 < d) (below :
   pub within_half_lem : ((j : ℕ) → suc j ≡ q → 2 * (q * d) ≡ 2 * n + d → gives-way j q) → ((j : ℕ) → suc q ≡ j → 2 * n ≡ 2 * (q * d) + d → gives-way j q)
       → NearestBy gives-way n d q
   within_half_lem tie-below tie-above = record {
-    others = λ j ne. elim (split (apart (q * d) n) (apart (j * d) n)) [
+    others = λ j ne. elim (cases_lt (apart (q * d) n) (apart (j * d) n)) [
       | inl l ↦ inl l
-      | inr l ↦ elim (split j q) [
+      | inr l ↦ elim (cases_lt j q) [
         | inl h ↦
             let w = lower (q * d) (j * d) n d D (step j q d h) below l in
             inr (w.0, tie-below j (adjacent j q d D w.1) w.2)
@@ -65,9 +65,9 @@ module _ (gives-way : ℕ → ℕ → Type 0) (n d q : ℕ) (D : 0 < d) (below :
 
 -- where no two numbers give way to each other, there is one nearest
 pub one_nearest : (gives-way : ℕ → ℕ → Type 0) (n d q r : ℕ) → (gives-way q r → gives-way r q → ⊥) → NearestBy gives-way n d q → NearestBy gives-way n d r → q ≡ r
-one_nearest gives-way n d q r once Q R = elim (split q r) [
+one_nearest gives-way n d q r once Q R = elim (cases_lt q r) [
   | inl h ↦ absurd (clash (Q.others r (λ e. lt_irrefl q (subst (λ z. q < z) e h))) (R.others q (λ e. lt_irrefl r (subst (λ z. z < r) e h))))
-  | inr h ↦ elim (split r q) [
+  | inr h ↦ elim (cases_lt r q) [
     | inl g ↦ absurd (clash (Q.others r (λ e. lt_irrefl q (subst (λ z. z < q) e g))) (R.others q (λ e. lt_irrefl r (subst (λ z. r < z) e g))))
     | inr g ↦ omega arith
   ]
@@ -153,7 +153,7 @@ rounded_none n d h = div-eq_of_lt {n = 2 * n + d} {m = 2 * d} (omega arith)
 
 -- a fraction of at most k rounds to at most k
 pub rounded_le : (n d k : ℕ) → 0 < d → n ≤ k * d → rounded n d ≤ k
-rounded_le n d k D h = elim (split k (rounded n d)) [
+rounded_le n d k D h = elim (cases_lt k (rounded n d)) [
   | inl l ↦ absurd (omega (arith, rounded_below n d, step k (rounded n d) d l))
   | inr l ↦ l
 ]

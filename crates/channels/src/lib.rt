@@ -6,10 +6,11 @@
 // a half up is the same.
 #![tactic(auto)]
 
-ghost use Rattle.std.specs.Prelude.{◌≡◌, ◌*◌, ◌≤◌, ◌<◌, ◌%◌, ◌^◌};
+ghost use Rattle.std.specs.Prelude.{◌≡◌, ◌*◌, ◌≤◌, ◌<◌, ◌%◌, ◌^◌, leb};
 ghost use Rattle.std.specs.Float.{binary32};
 ghost use Rattle.std.specs.Float.Ieee.{of_bits};
 ghost use Rattle.std.specs.Float.Ieee.Nearest.{closest};
+ghost use Rattle.words.specs.Tests.{pick};
 ghost use Rattle.channels.specs.Expansion.{expanded, truncated};
 ghost use Rattle.channels.specs.Nearest.{rounded, Nearest, NearestUp};
 ghost use Rattle.channels.specs.Luminance.{luminance_of};
@@ -17,7 +18,10 @@ ghost use Rattle.channels.specs.Floats.{clamped};
 ghost use Rattle.channels.specs.Exact.{not_negative};
 
 // The WIDTH low bits of a word as a byte: the bits repeated to its end; fewer than four over sixteen bits, as a multiple of their number.
-// By such a product at each width A4R4G4B4 took 1.13 times as long to read (measured); from four bits on two copies are enough.
+// By such a product at each width A4R4G4B4 took 1.13 times as long to read (measured), and of the 0.2 of the original's time that it may
+// take into itself it takes 0.19; from four bits on two copies are enough. That a width is from 1 to 8 is asked, here and in `truncate`
+// and where texels are decoded and encoded by it: it is a const argument, and no value that a struct could hold.
+#[tactic(auto, using(crate::proofs::ExpandedBits::codes, crate::proofs::ExpandedBits::by_shifts, crate::proofs::ExpandedBits::by_product, crate::proofs::ExpandedBits::copies_fit, crate::specs::Exact::ones_pos))]
 pub fn expand<const WIDTH: u32>(v: u16) -> u8
     requires { (0 < WIDTH) × (WIDTH ≤ 8) }
     ensures { result ≡ expanded WIDTH (v % 2 ^ WIDTH) }
@@ -58,7 +62,8 @@ pub fn unorm8_to_nearest_code(channel: u8, max: u32) -> u32
     ((channel as u32) * max + 127) / 255
 }
 
-// A byte as a sixteen-bit code: the byte twice, which is exact.
+// A byte as a sixteen-bit code: the byte twice, which is exact. Not `unorm8_to_nearest_code` at 65535: the product is the code, and no
+// division stands in it.
 pub fn unorm8_to_unorm16(channel: u8) -> u16
     ensures { result ≡ channel * 257 }
 {
@@ -84,14 +89,13 @@ pub fn unorm10_to_unorm8(v: u32) -> u8
     nearest_byte(v % 1024, 1023)
 }
 
-// An eight-bit code with a sign, and 0 where it is negative: the sign bit takes it away, with no jump.
-// By `max` in its place L16 took 1.3 and G16R16 1.5 times as long to read (measured).
+// An eight-bit code with a sign, and 0 where it is negative.
 #[tactic(auto, using(crate::proofs::ExactLaws::positive, crate::proofs::ExactLaws::negative))]
 fn not_negative8(code: u32) -> u32
     requires { code < 256 }
     ensures { result ≡ not_negative 8 code }
 {
-    code - code / 128 * code
+    if code < 128 { code } else { 0 }
 }
 
 // The eight low bits of a word, a code with a sign, as the nearest byte: 0 where it is negative. 127 is odd, so there is no tie.
@@ -104,6 +108,8 @@ pub fn snorm8_to_unorm8(v: u32) -> u8
 }
 
 // A sixteen-bit code as the nearest byte: a product and a quotient by 65536 stand for the division by 257, which is odd, so there is no tie.
+// Not `nearest_byte` at 65535: rows of sixteen-bit channels have no division, for speed.
+#[tactic(auto, using(crate::proofs::NearestLaws::by_product, crate::specs::Nearest::is_odd))]
 pub fn unorm16_to_unorm8(v: u16) -> u8
     ensures is { result ≡ rounded v 257 }
     ensures nearest { Nearest v 257 result }
@@ -113,6 +119,7 @@ pub fn unorm16_to_unorm8(v: u16) -> u8
 
 // n / 2^s to the nearest whole number, a tie to the even one: a half is added, less one where the quotient is even. Codes of
 // binary16 are rounded so.
+#[tactic(auto, using(crate::proofs::NearestLaws::even_by_shifts))]
 pub fn nearest_even_shifted(n: u64, s: u32) -> u64
     requires { (n < 4611686018427387904) × (0 < s) × (s < 62) }
     ensures { result ≡ closest n (2 ^ s) }
@@ -124,13 +131,15 @@ pub fn nearest_even_shifted(n: u64, s: u32) -> u64
 
 // The pattern of a binary32 number that is not negative: a NaN's pattern and that of what is negative count as 0.
 fn number_bits(bits: u32) -> u32
-    ensures { (bits ≤ 0x7f80_0000 → result ≡ bits) × (0x7f80_0000 < bits → result ≡ 0) }
+    ensures { result ≡ pick (leb bits 0x7f80_0000) bits 0 }
 {
     if bits > 0x7f80_0000 { 0 } else { bits }
 }
 
 // The code nearest to a binary32 number, given by its bits, on a scale whose top code is max, a half up: 0 for a NaN and what is
 // negative, and max from one on, for the infinity too. Below 2^-31 a shift by 31 leaves nothing of the scaled significand.
+// `max` stays a number: each caller hands over a literal, or its own code's largest, and would make a type of it for this call alone.
+#[tactic(auto, using(crate::proofs::NearestCode::nearest_shifted))]
 pub fn f32_to_nearest_code(bits: u32, max: u64) -> u32
     requires { max < 16777216 }
     ensures { result ≡ rounded (max * (clamped (of_bits binary32 bits)).top) (clamped (of_bits binary32 bits)).bottom }

@@ -1,18 +1,20 @@
-// Colours as lanes: a D3DCOLOR's channels, as numbers from 0 to 1, as the codes of lanes, and as words of lanes. Nothing is refused.
+// Colours as lanes: a D3DCOLOR's channels, as numbers from 0 to 1, as the codes of lanes, and words of such codes. Nothing is refused.
 // specs/LaneCodes says which code a lane holds of a byte.
 // Ported from convert.rs of athei/mtld3d (an altered version, see NOTICE).
 #![tactic(auto)]
 
-ghost use Rattle.std.specs.Prelude.{◌≡◌, [], ◌∷◌, ◌+◌, ◌*◌, ◌^◌, ◌≤◌, ◌<◌};
+ghost use Rattle.std.specs.Prelude.{◌≡◌, [], ◌∷◌, ◌+◌, ◌*◌};
 ghost use Rattle.std.specs.Float.{binary32};
 ghost use Rattle.std.specs.Float.Ieee.{to_bits};
 ghost use Rattle.formats.specs.Lanes.{red, green, blue, alpha, unsigned, signed, float16, float32};
-ghost use Rattle.channels.specs.Expansion.{truncated};
 ghost use Rattle.binary16.specs.Half.{half_of};
 ghost use Rattle.colours.specs.Color.{byte_of, unorm_of, Channels};
 ghost use Rattle.colours.specs.LaneCodes.{nearest_code, Codes};
 
-// Red, green, blue and alpha: a D3DCOLOR's channels, or the codes of four lanes.
+use texels::Texel;
+
+// The codes of four lanes: red, green, blue and alpha. Of eight bits it has the fields of `texels::Texel` and is none: a signed code is no
+// channel of 255ths.
 #[derive(Clone, Copy)]
 pub struct Lanes<T> {
     pub r: T,
@@ -21,33 +23,32 @@ pub struct Lanes<T> {
     pub a: T,
 }
 
-impl<T> Lanes<T> {
-    // Each of the four by one function.
-    pub fn map<U, F: Fn(T) -> U>(self, f: F) -> Lanes<U>
-        requires { F.pre f self.r × F.pre f self.g × F.pre f self.b × F.pre f self.a }
-        ensures red { F.post f self.r result.r }
-        ensures green { F.post f self.g result.g }
-        ensures blue { F.post f self.b result.b }
-        ensures alpha { F.post f self.a result.a }
-    {
-        Lanes {
-            r: f(self.r),
-            g: f(self.g),
-            b: f(self.b),
-            a: f(self.a),
-        }
+// The codes of a colour's channels, each by one function.
+fn coded<T, F: Fn(u8) -> T>(c: Texel, code: F) -> Lanes<T>
+    requires { F.pre code c.r × F.pre code c.g × F.pre code c.b × F.pre code c.a }
+    ensures red { F.post code c.r result.r }
+    ensures green { F.post code c.g result.g }
+    ensures blue { F.post code c.b result.b }
+    ensures alpha { F.post code c.a result.a }
+{
+    Lanes {
+        r: code(c.r),
+        g: code(c.g),
+        b: code(c.b),
+        a: code(c.a),
     }
 }
 
-// A D3DCOLOR is hexadecimal AARRGGBB.
-pub fn channels_of(color: u32) -> Lanes<u8>
+// A D3DCOLOR is hexadecimal AARRGGBB: a word of A8R8G8B8.
+#[tactic(auto, using(texels::proofs::Lanes::expanded_byte), unfolding(texels::specs::Texels::decoded_of, texels::specs::Texels::colour_of, formats::specs::Table::lane_of, formats::specs::Table::parts_of))]
+pub fn channels_of(color: u32) -> Texel
     ensures { Channels color result.r result.g result.b result.a }
 {
-    let [a, r, g, b] = color.to_be_bytes();
-    Lanes { r, g, b, a }
+    texels::decode_a8r8g8b8(color)
 }
 
 // A channel as a binary32 number from 0 to 1, by one division.
+#[tactic(auto, using(crate::proofs::LaneWords::literal_255))]
 fn unorm8_to_f32(channel: u8) -> f32
     ensures { result ≡ unorm_of channel }
 {
@@ -73,15 +74,23 @@ pub fn unorm8_to_f16_bits(channel: u8) -> u16
 pub fn d3dcolor_to_rgba_f32(color: u32) -> [f32; 4]
     ensures is { result ≡ (unorm_of (byte_of color red) ∷ unorm_of (byte_of color green) ∷ unorm_of (byte_of color blue) ∷ unorm_of (byte_of color alpha) ∷ []) }
 {
-    let c = channels_of(color).map(unorm8_to_f32);
-    [c.r, c.g, c.b, c.a]
+    let c = channels_of(color);
+    [
+        unorm8_to_f32(c.r),
+        unorm8_to_f32(c.g),
+        unorm8_to_f32(c.b),
+        unorm8_to_f32(c.a),
+    ]
 }
 
 // Four channels as signed codes of eight bits, for lanes to hold.
-pub fn snorm8_lanes(c: Lanes<u8>) -> Lanes<u8>
+// Two functions, and no generic: u8 and u16 share no `as`, so a trait's impls would say the top code and the cast that stand here.
+#[tactic(auto, using(crate::proofs::LaneWords::nearest_bits))]
+pub fn snorm8_lanes(c: Texel) -> Lanes<u8>
     ensures { Codes signed 8 c.r c.g c.b c.a result.r result.g result.b result.a }
 {
-    c.map(
+    coded(
+        c,
         |v: u8| -> u8
             ensures { result ≡ nearest_code 127 v }
         { channels::unorm8_to_nearest_code(v, 127) as u8 },
@@ -89,10 +98,12 @@ pub fn snorm8_lanes(c: Lanes<u8>) -> Lanes<u8>
 }
 
 // The same as signed codes of sixteen bits.
-pub fn snorm16_lanes(c: Lanes<u8>) -> Lanes<u16>
+#[tactic(auto, using(crate::proofs::LaneWords::nearest_bits))]
+pub fn snorm16_lanes(c: Texel) -> Lanes<u16>
     ensures { Codes signed 16 c.r c.g c.b c.a result.r result.g result.b result.a }
 {
-    c.map(
+    coded(
+        c,
         |v: u8| -> u16
             ensures { result ≡ nearest_code 32767 v }
         { channels::unorm8_to_nearest_code(v, 32767) as u16 },
@@ -100,47 +111,28 @@ pub fn snorm16_lanes(c: Lanes<u8>) -> Lanes<u16>
 }
 
 // The same as unsigned codes of sixteen bits.
-pub fn unorm16_lanes(c: Lanes<u8>) -> Lanes<u16>
+pub fn unorm16_lanes(c: Texel) -> Lanes<u16>
     ensures { Codes unsigned 16 c.r c.g c.b c.a result.r result.g result.b result.a }
 {
-    c.map(channels::unorm8_to_unorm16)
+    coded(c, channels::unorm8_to_unorm16)
 }
 
 // The same as binary16 patterns.
-pub fn f16_lanes(c: Lanes<u8>) -> Lanes<u16>
+pub fn f16_lanes(c: Texel) -> Lanes<u16>
     ensures { Codes float16 16 c.r c.g c.b c.a result.r result.g result.b result.a }
 {
-    c.map(unorm8_to_f16_bits)
+    coded(c, unorm8_to_f16_bits)
 }
 
 // The same as binary32 patterns.
-pub fn f32_lanes(c: Lanes<u8>) -> Lanes<u32>
+pub fn f32_lanes(c: Texel) -> Lanes<u32>
     ensures { Codes float32 32 c.r c.g c.b c.a result.r result.g result.b result.a }
 {
-    c.map(unorm8_to_f32_bits)
+    coded(c, unorm8_to_f32_bits)
 }
 
 // Words of lanes, the last named lowest, as D3DFORMAT's names list them from the top bit down.
-pub fn pack_r5g6b5(c: Lanes<u8>) -> u16
-    ensures { result ≡ truncated 5 c.r * 2048 + truncated 6 c.g * 32 + truncated 5 c.b }
-{
-    (channels::truncate::<5>(c.r) << 11)
-        | (channels::truncate::<6>(c.g) << 5)
-        | channels::truncate::<5>(c.b)
-}
-
-// Sixteen bits at most: the top ALPHA bits of alpha, and the top COLOUR bits of each colour.
-pub fn pack_argb<const ALPHA: u32, const COLOUR: u32>(c: Lanes<u8>) -> u16
-    requires widths { (0 < ALPHA) × (ALPHA ≤ 8) × (0 < COLOUR) × (COLOUR ≤ 8) }
-    requires fits { ALPHA + 3 * COLOUR ≤ 16 }
-    ensures { result ≡ truncated ALPHA c.a * 2 ^ (3 * COLOUR) + truncated COLOUR c.r * 2 ^ (2 * COLOUR) + truncated COLOUR c.g * 2 ^ COLOUR + truncated COLOUR c.b }
-{
-    (channels::truncate::<ALPHA>(c.a) << (3 * COLOUR))
-        | (channels::truncate::<COLOUR>(c.r) << (2 * COLOUR))
-        | (channels::truncate::<COLOUR>(c.g) << COLOUR)
-        | channels::truncate::<COLOUR>(c.b)
-}
-
+#[tactic(auto, using(crate::proofs::LaneWords::parts_2_10, crate::proofs::LaneWords::nearest_bits))]
 pub fn pack_a2_rgb10(alpha: u8, high: u8, middle: u8, low: u8) -> u32
     ensures { result ≡ nearest_code 3 alpha * 1073741824 + nearest_code 1023 high * 1048576 + nearest_code 1023 middle * 1024 + nearest_code 1023 low }
 {
@@ -154,13 +146,13 @@ pub fn pack_a2_rgb10(alpha: u8, high: u8, middle: u8, low: u8) -> u32
 pub fn pack_g8r8(l: Lanes<u8>) -> u16
     ensures { result ≡ l.g * 256 + l.r }
 {
-    (l.g as u16) * 0x100 + (l.r as u16)
+    u16::from_le_bytes([l.r, l.g])
 }
 
 pub fn pack_a8b8g8r8(l: Lanes<u8>) -> u32
     ensures { result ≡ l.a * 16777216 + l.b * 65536 + l.g * 256 + l.r }
 {
-    (l.a as u32) * 0x100_0000 + (l.b as u32) * 0x1_0000 + (l.g as u32) * 0x100 + (l.r as u32)
+    u32::from_le_bytes([l.r, l.g, l.b, l.a])
 }
 
 pub fn pack_g16r16(l: Lanes<u16>) -> u32

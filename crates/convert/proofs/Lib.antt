@@ -1,3 +1,3 @@
 -- Laws that other crates cite, and what the proofs of several functions use.
-pub mod Arms
+pub mod Words
 pub mod UnmovedLaws

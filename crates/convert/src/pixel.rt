@@ -2,6 +2,7 @@
 ghost use Rattle.std.specs.Prelude.{◌≡◌, ◌≤◌};
 
 // One texel's bytes: the first `len` of `bytes`, and zeros after them.
+// The length stands beside them since the C interface hands over both, and bytes of that length alone would need the heap.
 #[derive(Clone, Copy)]
 pub struct FillPixel {
     pub bytes: [u8; 16],
@@ -10,7 +11,7 @@ pub struct FillPixel {
 }
 
 // The format code has no fill.
-#[derive(Clone, Copy, PartialEq, Eq)]
+#[derive(Clone, Copy, Debug, PartialEq, Eq)]
 pub struct NoFill;
 
 // The number of that refusal.

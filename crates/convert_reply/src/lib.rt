@@ -1,23 +1,27 @@
 // The reply to a conversion, decided before any byte is written: which pairs of formats convert, and which regions are refused. Refused
 // are a pair that does not convert, a planar source that is no single slice of whole rows, a YUV source with a set of numbers that is
-// not legal, and a region with a texel outside the source or the destination. specs/Replies has the checks in their order; where texels lie is in the crate `places`.
+// not legal, and a region with a texel outside the source or the destination. specs/Replies has the checks in their order; where texels lie
+// is in the crate `places`.
 // Ported from pixel_convert.rs of athei/mtld3d (an altered version, see NOTICE).
 #![tactic(auto)]
 
 ghost use Rattle.std.specs.Prelude.{◌≡◌, ◌+◌, ◌^◌, ◌<◌, IfOk};
 ghost use Rattle.formats.specs.Formats.{rgb_code, source_code};
-ghost use Rattle.convert_reply.specs.Replies.{can_convert_update, can_convert, bad_planar_shape, illegal_set, is_empty, reply_to, refusal_number, without_value};
-ghost use Rattle.convert_reply.specs.Pairs.{Codes, FoundPair};
+ghost use Rattle.convert_reply.specs.Replies.{can_convert_update, can_convert, bad_planar_shape, is_empty, reply_to, refusal_number, without_value};
+ghost use Rattle.convert_reply.specs.Sources.{OfSet, FoundSource};
+ghost use Rattle.convert_reply.specs.Pairs.{Converts, FoundPair};
 
-use formats::{D3DFMT_A8R8G8B8, LaneSource, RgbFormat, SourceFormat, YuvFormat};
+use formats::{D3DFMT_A8R8G8B8, RgbFormat, SourceFormat, YuvFormat};
 use places::{Part, Pitches, Spot};
 use yuv_sets::{LegalSet, YuvSet};
 
 mod conversion;
 mod pair;
+mod sized;
 
 pub use conversion::Conversion;
 pub use pair::Pair;
+pub use sized::{LaneTexels, RgbTexels};
 
 // One conversion: the shared extent and both origins in texels, both layouts in bytes. `depth` counts the slices, which lie a
 // slice pitch apart.
@@ -36,8 +40,10 @@ pub struct ConvertRegion {
     pub depth: usize,
 }
 
-// There are two of each of the methods of a region and of its rows, for source and destination: the definitions, as the C interface,
-// have flat fields for both, and one method would take a flag and both branches.
+// There are two of each of the methods of a region and of its rows, for source and destination, whose fields lie flat in the definitions
+// and in the C interface. One method for both would take a flag and have both branches. A struct of one side (x, y, pitches) would be
+// made by two methods as well, out of the same fields; its part would be asked for by `region.source().part(region.width, region.height,
+// region.depth)` and its spot by `at.region.source().spot(at.z, at.row, column)`, which name twice what a region and a row hold.
 
 impl ConvertRegion {
     // How rows and slices of the source lie.
@@ -106,6 +112,9 @@ pub struct RegionRow {
 }
 
 impl RegionRow {
+    // That row and column are numbers of 64 bits is asked, here and in `yuv_texels::run_start`: `RowFits`, which every caller has, says it of
+    // the columns of a row, and the column is no field of a `RegionRow`.
+
     // Where the source texel of a column of the row is.
     pub fn source_spot(self, column: usize) -> Spot
         requires { (self.region.src_y + self.row < 2 ^ 64) × (self.region.src_x + column < 2 ^ 64) }
@@ -142,8 +151,15 @@ pub struct YuvSource {
     pub set: LegalSet,
 }
 
+// What a conversion reads: texels with lanes, or YUV by its set.
+#[derive(Clone, Copy)]
+pub enum Source {
+    Lanes(LaneTexels),
+    Yuv(YuvSource),
+}
+
 // Why a conversion is refused; `refusal_number` of specs/ has the numbers: 1 to 4 in this order, and 15.
-#[derive(Clone, Copy, PartialEq, Eq)]
+#[derive(Clone, Copy, Debug, PartialEq, Eq)]
 pub enum ConvertRefusal {
     Unsupported,
     PlanarShape,
@@ -198,12 +214,21 @@ fn bad_planar_shape(source: SourceFormat, region: ConvertRegion) -> bool
             || region.src_slice_pitch % region.src_pitch != 0)
 }
 
-// Whether a YUV source comes with a set that is not legal.
-#[tactic(auto, unfolding(crate::specs::Replies::illegal_set))]
-fn illegal_set(source: SourceFormat, numbers: YuvSet) -> bool
-    ensures { result ≡ illegal_set (source_code source) numbers }
+// What is read of a source's format, a YUV source by these numbers; there is none where they are not legal.
+#[tactic(auto, using(crate::proofs::PassedLaws::lanes_fit, crate::proofs::PassedLaws::yuv_fits, crate::proofs::PassedLaws::yuv_refused))]
+fn source_by(format: SourceFormat, numbers: YuvSet) -> Option<Source>
+    ensures { FoundSource format numbers result }
 {
-    source.is_yuv() && !yuv_sets::is_legal(numbers)
+    match format {
+        SourceFormat::Lanes(format) => {
+            let size = format.bytes_per_texel();
+            Some(Source::Lanes(LaneTexels { format, size }))
+        }
+        SourceFormat::Yuv(format) => {
+            let set = numbers.legal()?;
+            Some(Source::Yuv(YuvSource { format, set }))
+        }
+    }
 }
 
 // Whether a region has no texel.
@@ -237,20 +262,21 @@ fn check_pair(
     numbers: YuvSet,
 ) -> Result<Conversion, ConvertRefusal>
     ensures reply { without_value result ≡ reply_to numbers (source_code pair.source) (rgb_code pair.target) region src_len dst_len }
-    ensures pair { IfOk result (λ c. Codes c.pair (source_code pair.source) (rgb_code pair.target)) }
-    ensures numbers { IfOk result (λ c. c.numbers ≡ numbers) }
+    ensures pair { IfOk result (λ c. Converts c (source_code pair.source) (rgb_code pair.target)) }
+    ensures numbers { IfOk result (λ c. OfSet numbers c.source) }
 {
     if bad_planar_shape(pair.source, region) {
         return Err(ConvertRefusal::PlanarShape);
     }
-    if illegal_set(pair.source, numbers) {
+    let Some(source) = source_by(pair.source, numbers) else {
         return Err(ConvertRefusal::IllegalSet);
-    }
+    };
     let conversion = Conversion {
-        pair,
-        numbers,
-        from_size: pair.source.bytes_per_texel(),
-        to_size: pair.target.bytes_per_texel(),
+        source,
+        target: RgbTexels {
+            format: pair.target,
+            size: pair.target.bytes_per_texel(),
+        },
     };
     if is_empty(region) {
         return Ok(conversion);
@@ -263,10 +289,9 @@ fn check_pair(
     ) {
         return Err(ConvertRefusal::SourceOutside);
     }
-    let target = SourceFormat::Lanes(LaneSource::Rgb(pair.target));
     if !places::inside(
         dst_len,
-        target,
+        SourceFormat::from(pair.target),
         region.destination_pitches(),
         region.destination_part(),
     ) {
@@ -275,7 +300,8 @@ fn check_pair(
     Ok(conversion)
 }
 
-// The conversion between two formats by a set of numbers, or why it is refused, from the lengths of its buffers: the checks in their order.
+// The conversion between two formats by a set of numbers, or why it is refused, from the lengths of its buffers: the checks in their
+// order. The formats are codes here, as the C interface hands them over.
 #[tactic(auto, using(crate::specs::Passed::no_pair))]
 pub fn check(
     src_len: usize,
@@ -286,8 +312,8 @@ pub fn check(
     numbers: YuvSet,
 ) -> Result<Conversion, ConvertRefusal>
     ensures reply { without_value result ≡ reply_to numbers src_format dst_format region src_len dst_len }
-    ensures pair { IfOk result (λ c. Codes c.pair src_format dst_format) }
-    ensures numbers { IfOk result (λ c. c.numbers ≡ numbers) }
+    ensures pair { IfOk result (λ c. Converts c src_format dst_format) }
+    ensures numbers { IfOk result (λ c. OfSet numbers c.source) }
 {
     let Some(pair) = pair_of(src_format, dst_format) else {
         return Err(ConvertRefusal::Unsupported);

@@ -15,11 +15,14 @@ use depth_pixels::PackedDepth;
 use depth_rows::Row;
 use depth_texture::{DepthRefusal, PlaneLayout};
 
-// ---- formats are numbers here, as the C interface hands them over
+// ---- formats are numbers here, as the C interface hands them over. A picture is lent to be read by `unpack` and to be written by
+// `pack`, and the planes the other way round, so that a struct of a buffer with its pitch would be two structs, made at each call.
+// Both begin alike, by the test and the rows that it makes: a function for that would have the six parameters again and hand on `check`'s
+// Result.
 
 // Each pixel's depth goes to the depth plane, and its stencil, where the format has one, to the stencil plane. Without a stencil
 // that plane is not written, and it may be empty.
-#[tactic(auto, using(crate::proofs::Calls::unpack_accepted))]
+#[tactic(auto, using(depth_texture::specs::Refusals::accepts, crate::proofs::Calls::unpack_accepted))]
 pub fn unpack(
     layout: PlaneLayout,
     format: u32,
@@ -40,13 +43,18 @@ pub fn unpack(
         depth.len(),
         stencil.len(),
     )?;
-    unpack_rows(layout, kind, packed, packed_pitch, depth, stencil);
+    let rows = PictureRows {
+        kind,
+        layout,
+        packed_pitch,
+    };
+    rows.unpack(packed, depth, stencil);
     Ok(())
 }
 
 // Each pixel is packed from the depth plane's binary32 number, whatever it is, and the stencil plane's byte, where the format has
 // a stencil. Without one that plane is not read.
-#[tactic(auto, using(depth_texture::proofs::RoundTrip::packed_refused, crate::proofs::Calls::pack_accepted))]
+#[tactic(auto, using(depth_texture::specs::Refusals::accepts, depth_texture::proofs::RoundTrip::packed_refused, crate::proofs::Calls::pack_accepted))]
 pub fn pack(
     layout: PlaneLayout,
     format: u32,
@@ -67,64 +75,65 @@ pub fn pack(
         depth.len(),
         stencil.len(),
     )?;
-    pack_rows(layout, kind, depth, stencil, packed, packed_pitch);
+    let rows = PictureRows {
+        kind,
+        layout,
+        packed_pitch,
+    };
+    rows.pack(packed, depth, stencil);
     Ok(())
 }
 
-// The places of row y.
-fn row_at(layout: PlaneLayout, packed_pitch: usize, y: usize) -> Row
-    requires { (y * packed_pitch ≤ 18446744073709551615) × (y * layout.depth_pitch ≤ 18446744073709551615) × (y * layout.stencil_pitch ≤ 18446744073709551615) }
-    ensures { result ≡ row_of layout packed_pitch y }
-{
-    Row {
-        packed: y * packed_pitch,
-        depth: y * layout.depth_pitch,
-        stencil: y * layout.stencil_pitch,
-        width: layout.width,
-    }
+// The rows of a picture whose buffers were tested. The buffers stay parameters: now the planes are written, and now the packed one.
+#[derive(Clone, Copy)]
+struct PictureRows {
+    pub kind: PackedDepth,
+    pub layout: PlaneLayout,
+    pub packed_pitch: usize,
 }
 
-// Every row of a picture whose buffers were tested.
-#[tactic(auto, using(depth_pixels::specs::Pictures::rows_none), unfolding(depth_texture::specs::Planes::depth_plane, depth_texture::specs::Planes::stencil_plane))]
-fn unpack_rows(
-    layout: PlaneLayout,
-    kind: PackedDepth,
-    packed: &[u8],
-    packed_pitch: usize,
-    depth: &mut [u8],
-    stencil: &mut [u8],
-)
-    requires { Accepts (format_code kind) layout (length packed.now) packed_pitch (length depth.old) (length stencil.old) }
-    ensures depth { depth.new ≡ depth_plane (format_code kind) layout packed.now packed_pitch depth.old }
-    ensures stencil { stencil.new ≡ stencil_plane (format_code kind) layout packed.now packed_pitch stencil.old }
-{
-    for y in 0..layout.height {
-        let row = row_at(layout, packed_pitch, y);
-        depth_rows::unpack_row(kind, packed, depth, stencil, row);
+impl PictureRows {
+    // The places of row y.
+    fn row_at(self, y: usize) -> Row
+        requires { (y * self.packed_pitch ≤ 18446744073709551615) × (y * self.layout.depth_pitch ≤ 18446744073709551615) × (y * self.layout.stencil_pitch ≤ 18446744073709551615) }
+        ensures { result ≡ row_of self.layout self.packed_pitch y }
+    {
+        Row {
+            packed: y * self.packed_pitch,
+            depth: y * self.layout.depth_pitch,
+            stencil: y * self.layout.stencil_pitch,
+            width: self.layout.width,
+        }
     }
-}
 
-// Every row of a picture whose buffers were tested.
-#[tactic(auto, using(depth_pixels::specs::Pictures::rows_none), unfolding(depth_texture::specs::Planes::packed_pixels))]
-fn pack_rows(
-    layout: PlaneLayout,
-    kind: PackedDepth,
-    depth: &[u8],
-    stencil: &[u8],
-    packed: &mut [u8],
-    packed_pitch: usize,
-)
-    requires { Accepts (format_code kind) layout (length packed.old) packed_pitch (length depth.now) (length stencil.now) }
-    ensures { packed.new ≡ packed_pixels (format_code kind) layout depth.now stencil.now packed_pitch packed.old }
-{
-    for y in 0..layout.height {
-        let row = row_at(layout, packed_pitch, y);
-        depth_rows::pack_row(kind, packed, depth, stencil, row);
+    // Every row into its places in both planes.
+    #[tactic(auto, using(depth_pixels::specs::Pictures::rows_none), unfolding(depth_texture::specs::Planes::depth_plane, depth_texture::specs::Planes::stencil_plane))]
+    fn unpack(self, packed: &[u8], depth: &mut [u8], stencil: &mut [u8])
+        requires { Accepts (format_code self.kind) self.layout (length packed.now) self.packed_pitch (length depth.old) (length stencil.old) }
+        ensures depth { depth.new ≡ depth_plane (format_code self.kind) self.layout packed.now self.packed_pitch depth.old }
+        ensures stencil { stencil.new ≡ stencil_plane (format_code self.kind) self.layout packed.now self.packed_pitch stencil.old }
+    {
+        for y in 0..self.layout.height {
+            let row = self.row_at(y);
+            depth_rows::unpack_row(self.kind, packed, depth, stencil, row);
+        }
+    }
+
+    // The same way back.
+    #[tactic(auto, using(depth_pixels::specs::Pictures::rows_none), unfolding(depth_texture::specs::Planes::packed_pixels))]
+    fn pack(self, packed: &mut [u8], depth: &[u8], stencil: &[u8])
+        requires { Accepts (format_code self.kind) self.layout (length packed.old) self.packed_pitch (length depth.now) (length stencil.now) }
+        ensures { packed.new ≡ packed_pixels (format_code self.kind) self.layout depth.now stencil.now self.packed_pitch packed.old }
+    {
+        for y in 0..self.layout.height {
+            let row = self.row_at(y);
+            depth_rows::pack_row(self.kind, packed, depth, stencil, row);
+        }
     }
 }
 
 // THE ROUND TRIP: unpacking, and then packing the planes into another buffer with a pitch of its own, puts back every pixel. It rests on
-// what `unpack` and `pack` promise alone, and has the parameters of both.
+// what `unpack` and `pack` promise alone, and has the parameters of both, the format's number too.
 pub fn restore(
     layout: PlaneLayout,
     format: u32,

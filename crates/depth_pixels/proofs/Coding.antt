@@ -1,14 +1,16 @@
 -- A pixel decoded by one division, and encoded by one word, for any format and its largest code. Assumes nothing.
-use Rattle.std.proofs.Common.{◌≡◌, refl, sym, ap, ap₂, ◌∙◌, List, ℕ, ◌*◌, ◌≤◌, pos, T, le→leb, take}
-use lib.Seq.{sets}
-use lib.Ieee.{binary32, of_int, of_bits, div, in_float}
-use lib.Ieee.Nearest.{closest}
+use Rattle.std.proofs.Common.{◌≡◌, refl, sym, ap, ap₂, ◌∙◌, List, ℕ, ◌*◌, pos, T, not, lit<, lit≤, subst, arith, is_nan, ◌<◌, take}
+use Rattle.std.proofs.lemmas.List.Edits.{sets}
+use Rattle.std.specs.Float.{binary32}
+use Rattle.std.specs.Float.Ieee.{of_int, of_bits, div}
+use Rattle.std.specs.Float.Ieee.Nearest.{closest}
 use Rattle.words.specs.Little.{number, bytes}
 use Rattle.formats.specs.Table.{bytes_of}
 use Rattle.channels.specs.Fractions.{Fraction}
 use Rattle.channels.specs.Floats.{clamped}
 use Rattle.depth_pixels.specs.declared.DepthStencil.{DepthStencil}
 use Rattle.depth_pixels.specs.Depth.{code_for}
+use Rattle.depth_pixels.specs.Restoration.{depth_no_nan}
 use Rattle.depth_pixels.specs.Pixels.{max_code, depth_code, stencil_code, decoded, pixel_word, encoded}
 use Rattle.depth_pixels.specs.PixelBytes.{word_at}
 
@@ -20,11 +22,6 @@ literal_16 = refl
 pub literal_24 : of_bits binary32 0x4b7f_ffff ≡ of_int binary32 (pos 16777215)
 unfolding of_bits of_int
 literal_24 = refl
-
--- binary32 holds every code
-pub exact : (k : ℕ) → k ≤ 16777216 → T (in_float binary32 (pos k))
-unfolding in_float
-exact k h = le→leb k 16777216 h
 
 -- the word that was read
 pub word_read : (f n : ℕ) (pixel : List ℕ) (r : ℕ) → bytes_of f ≡ n → r ≡ number (take n pixel) → word_at f pixel 0 ≡ r
@@ -49,3 +46,10 @@ encodes f max n v c l put b m e w =
 pub encoded_same : (f : ℕ) (v w : DepthStencil) → clamped v.depth ≡ clamped w.depth → v.stencil ≡ w.stencil → encoded f v ≡ encoded f w
 unfolding encoded code_for
 encoded_same f v w e h = ap₂ (λ (q : Fraction) (t : ℕ). bytes (bytes_of f) (pixel_word f (closest (q.top * max_code f) q.bottom) t)) e h
+
+-- what is decoded is a number
+pub number_16 : (k : ℕ) → k < 65536 → T (not (is_nan (div binary32 (of_int binary32 (pos k)) (of_bits binary32 0x477f_ff00))))
+number_16 k h = subst (λ m. T (not (is_nan (div binary32 (of_int binary32 (pos k)) m)))) (sym literal_16) (depth_no_nan 65535 k (lit< tt) (omega arith) (lit≤ tt))
+
+pub number_24 : (k : ℕ) → k < 16777216 → T (not (is_nan (div binary32 (of_int binary32 (pos k)) (of_bits binary32 0x4b7f_ffff))))
+number_24 k h = subst (λ m. T (not (is_nan (div binary32 (of_int binary32 (pos k)) m)))) (sym literal_24) (depth_no_nan 16777215 k (lit< tt) (omega arith) (lit≤ tt))

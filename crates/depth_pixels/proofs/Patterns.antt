@@ -1,7 +1,9 @@
 -- The code of a depth as a half is rounded up, and a NaN, which counts as 0. Assumes nothing.
-use Rattle.std.proofs.Common.{◌≡◌, refl, sym, ap, ◌∙◌, subst, true, not, true≢false, ℕ, ◌*◌, ◌%◌, ◌≤◌, mul_comm, T, Float}
-use lib.Ieee.{nan, inf, fin, binary32, of_bits, of_fields, odd, is_nan}
-use lib.Ieee.Nearest.{closest}
+use Rattle.std.proofs.Common.{◌≡◌, refl, sym, ap, ◌∙◌, subst, true, true≢false, ℕ, ◌*◌, ◌%◌, ◌≤◌, mul_comm, T, Float}
+use Rattle.std.specs.Float.{nan, inf, fin, binary32}
+use Rattle.std.specs.Float.Ieee.{fits, of_bits, to_bits, is_nan}
+use Rattle.std.specs.Float.Ieee.Bits.{of_bits-to_bits}
+use Rattle.std.specs.Float.Ieee.Nearest.{closest}
 use Rattle.channels.specs.Nearest.{rounded}
 use Rattle.channels.specs.Even.{alike}
 use Rattle.channels.specs.Floats.{clamped, top_le, bottom_power, zero_clamped}
@@ -16,12 +18,11 @@ code_rounded max x h =
     ap (λ n. rounded n (clamped x).bottom) (mul_comm max t)
     ∙ subst (λ d. rounded (t * max) d ≡ closest (t * max) d) (sym w.1) (alike t w.0 max (subst (λ d. t ≤ d) w.1 (top_le x)) h)
 
--- ---- a NaN
--- 0 is none
-pub zero_number : T (not (is_nan (of_bits binary32 0)))
-unfolding of_bits of_fields odd is_nan
-zero_number = tt
+-- a binary32 number is what its bits are read as
+pub bits_read : (max : ℕ) (x : Float) → T (fits binary32 x) → code_for max (of_bits binary32 (to_bits binary32 x)) ≡ code_for max x
+bits_read max x h = ap (code_for max) (of_bits-to_bits binary32 x h)
 
+-- ---- a NaN
 -- the test `is_nan`
 nan_is : (x : Float) → is_nan x ≡ true → x ≡ nan
 unfolding is_nan

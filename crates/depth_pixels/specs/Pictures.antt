@@ -5,10 +5,10 @@ use Rattle.std.specs.Prelude.{◌≡◌, ◌⊎◌, ℕ, ◌+◌, ◌-◌, ◌*�
 use Rattle.std.proofs.Common.{ap, sym, ◌∙◌, subst, mul-le-mul_right, mul_comm, arith, inl, inr}
 use Rattle.std.proofs.Math.Arith.{lt_of_le-ne}
 use Rattle.std.proofs.Math.Seq.{sets, length-sets}
+use Rattle.std.proofs.lemmas.Bool.{cases_lt}
 use Rattle.words.specs.Iterate.{iterate, iterate_zero, iterate_keeps, iterate_same}
 use Rattle.words.proofs.IterateLaws.{iterate_step, iterate_length, iterate_makes}
 use Rattle.words.specs.Slices.{sets_before, sets_after, sets_read, part_apart}
-use Rattle.words.specs.Tests.{split}
 use Rattle.channels.specs.Nearest.{step}
 
 -- where pixel (x, y) begins
@@ -41,7 +41,7 @@ RowsIn len pitch size width height = (y : ℕ) → y < height → RowIn len (y *
 -- ---- places
 -- two pixels of one row
 pub columns_apart : (from size x x' : ℕ) → (x' ≡ x → ⊥) → (from + x * size + size ≤ from + x' * size) ⊎ (from + x' * size + size ≤ from + x * size)
-columns_apart from size x x' ne = elim (split x x') [
+columns_apart from size x x' ne = elim (cases_lt x x') [
   | inl h ↦ inl (omega (arith, step x x' size h))
   | inr h ↦ inr (omega (arith, step x' x size (lt_of_le-ne h ne)))
 ]
@@ -53,7 +53,7 @@ module _ (pitch size width : ℕ) (room : width * size ≤ pitch) where
 
   pub rows_apart : (x y x' y' : ℕ) → x < width → x' < width → (y' ≡ y → ⊥)
       → (place pitch size x y + size ≤ place pitch size x' y') ⊎ (place pitch size x' y' + size ≤ place pitch size x y)
-  rows_apart x y x' y' h h' ne = elim (split y y') [
+  rows_apart x y x' y' h h' ne = elim (cases_lt y y') [
     | inl l ↦ inl (earlier_row x y x' y' h l)
     | inr l ↦ inr (earlier_row x' y' x y h' (lt_of_le-ne l ne))
   ]
@@ -132,9 +132,9 @@ module _ (pitch size width height : ℕ) (content : ℕ → ℕ → List ℕ) (s
       l refl
     where
       one : (x y : ℕ) → x < width → y < height → (b : List ℕ) → get_or (sets b (place pitch size x y) (content x y)) k 0 ≡ get_or b k 0
-      one x y xl yl b = elim (split k (place pitch size x y)) [
+      one x y xl yl b = elim (cases_lt k (place pitch size x y)) [
         | inl h ↦ sets_before b (place pitch size x y) (content x y) k h
-        | inr h ↦ elim (split k (place pitch size x y + size)) [
+        | inr h ↦ elim (cases_lt k (place pitch size x y + size)) [
           | inl g ↦ absurd (none x y xl yl h g)
           | inr g ↦ sets_after b (place pitch size x y) (content x y) k (omega (arith, sized x y))
         ]

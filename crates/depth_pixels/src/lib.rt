@@ -4,11 +4,11 @@
 // Ported from depth_texture.rs of athei/mtld3d (an altered version, see NOTICE).
 #![tactic(auto)]
 
-ghost use Rattle.std.specs.Prelude.{◌≡◌, ℕ, Bool, true, false, not, ◌+◌, ◌-◌, ◌%◌, ◌≤◌, ◌<◌, max, length, T};
+ghost use Rattle.std.specs.Prelude.{◌≡◌, ℕ, Bool, true, false, ◌+◌, ◌%◌, ◌≤◌, ◌<◌, length};
 ghost use Rattle.std.proofs.Common.{sym};
 ghost use Rattle.std.proofs.lemmas.List.Edits.{sets};
 ghost use Rattle.std.specs.Float.{binary32};
-ghost use Rattle.std.specs.Float.Ieee.{of_bits, to_bits, is_nan};
+ghost use Rattle.std.specs.Float.Ieee.{to_bits};
 ghost use Rattle.words.specs.Little.{bytes};
 ghost use Rattle.formats.specs.Table.{bytes_of};
 ghost use Rattle.channels.specs.Floats.{clamped};
@@ -17,8 +17,11 @@ ghost use Rattle.depth_pixels.specs.Pixels.{format_code, StandsFor, has_stencil,
 ghost use Rattle.depth_pixels.specs.PixelBytes.{word_at};
 ghost use Rattle.depth_pixels.specs.PackedFormats.{size_d16, size_d24x8, size_d24s8, stencil_d16, stencil_d24x8, stencil_d24s8};
 
+mod pixel;
+
 use channels::f32_to_nearest_code;
 use formats::{D3DFMT_D16, D3DFMT_D24S8, D3DFMT_D24X8};
+pub use pixel::Pixel;
 use words::{le16, le32, put16, put32};
 
 // The packed depth formats, whose codes survive binary32 storage.
@@ -29,7 +32,8 @@ pub enum PackedDepth {
     D24S8,
 }
 
-// What a pixel stands for. Without a stencil that is 0.
+// What a pixel stands for. Without a stencil that is 0, and no Option: whether there is one is a constant of the format's type, and the
+// definition `decoded` has 0 there.
 #[derive(Clone, Copy)]
 pub struct DepthStencil {
     pub depth: f32,
@@ -54,14 +58,14 @@ pub trait PackedPixel {
     ghost kind: { PackedDepth };
 
     // The depth and the stencil of the pixel at the front of a part of a row.
-    fn decode(pixel: &[u8]) -> DepthStencil
-        requires { SIZE ≤ length pixel.now }
-        ensures { result ≡ decoded (format_code kind) (word_at (format_code kind) pixel.now 0) };
+    fn decode(packed: &[u8]) -> Pixel
+        requires { SIZE ≤ length packed.now }
+        ensures { result.value ≡ decoded (format_code kind) (word_at (format_code kind) packed.now 0) };
 
-    // A depth, as the nearest code, and a stencil, packed at the front of a part of a row.
-    fn encode(value: DepthStencil, pixel: &mut [u8])
-        requires { (SIZE ≤ length pixel.old) × T (not (is_nan value.depth)) }
-        ensures { pixel.new ≡ sets pixel.old 0 (encoded (format_code kind) value) };
+    // A pixel's depth, as the nearest code, and its stencil, packed at the front of a part of a row.
+    fn encode(pixel: Pixel, packed: &mut [u8])
+        requires { SIZE ≤ length packed.old }
+        ensures { packed.new ≡ sets packed.old 0 (encoded (format_code kind) pixel.value) };
 
     ghost sized: { SIZE ≡ bytes_of (format_code kind) };
 
@@ -69,7 +73,8 @@ pub trait PackedPixel {
 }
 
 impl PackedDepth {
-    // The packed depth format that has this code.
+    // The packed depth format that has this code, a number that the C interface hands over. An Option, as the formats of crate `formats`
+    // have it: which refusal a number of no format is, the caller says.
     #[tactic(auto, using(crate::specs::PackedFormats::not_packed))]
     pub fn from_d3d(format: u32) -> Option<PackedDepth>
         ensures { StandsFor format result }
@@ -82,7 +87,8 @@ impl PackedDepth {
         }
     }
 
-    // The kind is known at run time alone: each method chooses the type by it.
+    // The kind is known at run time alone, as the C interface hands it over as a number: each method chooses the type by it. A
+    // `dyn PackedPixel` could not have SIZE and STENCIL, which are constants of the type.
 
     // Packed bytes per pixel.
     #[tactic(auto, using(crate::specs::PackedFormats::size_d16, crate::specs::PackedFormats::size_d24x8, crate::specs::PackedFormats::size_d24s8))]
@@ -115,9 +121,9 @@ impl PackedDepth {
         ensures { result ≡ decoded (format_code self) (word_at (format_code self) pixel.now 0) }
     {
         match self {
-            PackedDepth::D16 => D16::decode(pixel),
-            PackedDepth::D24X8 => D24X8::decode(pixel),
-            PackedDepth::D24S8 => D24S8::decode(pixel),
+            PackedDepth::D16 => D16::decode(pixel).value,
+            PackedDepth::D24X8 => D24X8::decode(pixel).value,
+            PackedDepth::D24S8 => D24S8::decode(pixel).value,
         }
     }
 
@@ -145,41 +151,30 @@ pub struct D24X8;
 // The code lies above the stencil byte.
 pub struct D24S8;
 
-// The largest code stays a number in these two: each format hands over its own as a literal, and a type for it would be made of the
-// same literal with the same two facts.
-
-// The code of the depth with these bits, where max is the largest code: the only tie is at one half, where the upper code is the
-// even one, as max is 3 above a multiple of 4.
-#[tactic(auto, using(crate::proofs::Patterns::code_rounded))]
-fn code_of_bits(max: u64, bits: u32) -> u64
+// The code of a pixel's depth, where max is the largest code: the only tie is at one half, where the upper code is the even one, as max is
+// 3 above a multiple of 4. The largest code stays a number: each format hands over its own as a literal, and a type for it would be made
+// of the same literal with the same two facts.
+#[tactic(auto, using(crate::proofs::Patterns::code_rounded, crate::proofs::Patterns::bits_read))]
+fn code_of(max: u64, pixel: Pixel) -> u64
     requires { (max < 16777216) × (max % 4 ≡ 3) }
-    ensures { result ≡ code_for max (of_bits binary32 bits) }
+    ensures { result ≡ code_for max pixel.value.depth }
 {
-    f32_to_nearest_code(bits, max) as u64
+    f32_to_nearest_code(f32::to_bits(pixel.value.depth), max) as u64
 }
 
-// The code of a depth.
-fn code_of(max: u64, depth: f32) -> u64
-    requires { (max < 16777216) × (max % 4 ≡ 3) × T (not (is_nan depth)) }
-    ensures { result ≡ code_for max depth }
-{
-    code_of_bits(max, f32::to_bits(depth))
-}
-
-// The same depth and stencil, with 0 for a NaN, which has no bits of its own.
+// The same depth and stencil, with 0 for a NaN. No From, which keeps what it takes.
 #[tactic(auto, using(crate::proofs::Patterns::tested_nan))]
-fn without_nan(value: DepthStencil) -> DepthStencil
-    ensures same { (clamped result.depth ≡ clamped value.depth) × (result.stencil ≡ value.stencil) }
-    ensures number { T (not (is_nan result.depth)) }
+fn without_nan(value: DepthStencil) -> Pixel
+    ensures { (clamped result.value.depth ≡ clamped value.depth) × (result.value.stencil ≡ value.stencil) }
 {
     if value.depth.is_nan() {
-        DepthStencil {
+        let value = DepthStencil {
             depth: 0.0,
             stencil: value.stencil,
-        }
-    } else {
-        value
+        };
+        return Pixel { value };
     }
+    Pixel { value }
 }
 
 impl PackedPixel for D16 {
@@ -195,16 +190,18 @@ impl PackedPixel for D16 {
 
     ghost kind = { kinds.D16 };
 
-    fn decode(pixel: &[u8]) -> DepthStencil {
-        DepthStencil {
-            depth: (le16(pixel) as f32) / 65535.0,
+    #[tactic(auto, using(crate::proofs::Coding::number_16))]
+    fn decode(packed: &[u8]) -> Pixel {
+        let value = DepthStencil {
+            depth: (le16(packed) as f32) / 65535.0,
             stencil: 0,
-        }
+        };
+        Pixel { value }
     }
 
     #[tactic(auto, using(crate::specs::Restoration::code_for_lem))]
-    fn encode(value: DepthStencil, pixel: &mut [u8]) {
-        put16(pixel, code_of(65535, value.depth) as u16);
+    fn encode(pixel: Pixel, packed: &mut [u8]) {
+        put16(packed, code_of(65535, pixel) as u16);
     }
 
     ghost sized = { sym size_d16 };
@@ -228,18 +225,20 @@ impl PackedPixel for D24X8 {
 
     ghost kind = { kinds.D24X8 };
 
-    fn decode(pixel: &[u8]) -> DepthStencil {
-        let word = le32(pixel);
-        DepthStencil {
+    #[tactic(auto, using(crate::proofs::Coding::number_24))]
+    fn decode(packed: &[u8]) -> Pixel {
+        let word = le32(packed);
+        let value = DepthStencil {
             depth: ((word % 0x100_0000) as f32) / 16777215.0,
             stencil: 0,
-        }
+        };
+        Pixel { value }
     }
 
     #[tactic(auto, using(crate::specs::Restoration::code_for_lem))]
-    fn encode(value: DepthStencil, pixel: &mut [u8]) {
-        let code = code_of(16777215, value.depth) as u32;
-        put32(pixel, UNUSED * 0x100_0000 + code);
+    fn encode(pixel: Pixel, packed: &mut [u8]) {
+        let code = code_of(16777215, pixel) as u32;
+        put32(packed, UNUSED * 0x100_0000 + code);
     }
 
     ghost sized = { sym size_d24x8 };
@@ -260,22 +259,23 @@ impl PackedPixel for D24S8 {
 
     ghost kind = { kinds.D24S8 };
 
-    #[tactic(auto, using(crate::specs::PackedFormats::size_d24s8, crate::specs::PackedFormats::max_d24s8, crate::specs::PackedFormats::code_d24s8, crate::specs::PackedFormats::stencil_of_d24s8, crate::proofs::Coding::literal_24, crate::proofs::Coding::word_read, crate::proofs::Coding::decodes))]
-    fn decode(pixel: &[u8]) -> DepthStencil {
-        let word = le32(pixel);
-        DepthStencil {
+    #[tactic(auto, using(crate::specs::PackedFormats::size_d24s8, crate::specs::PackedFormats::max_d24s8, crate::specs::PackedFormats::code_d24s8, crate::specs::PackedFormats::stencil_of_d24s8, crate::proofs::Coding::literal_24, crate::proofs::Coding::word_read, crate::proofs::Coding::decodes, crate::proofs::Coding::number_24))]
+    fn decode(packed: &[u8]) -> Pixel {
+        let word = le32(packed);
+        let value = DepthStencil {
             depth: ((word / 0x100) as f32) / 16777215.0,
             stencil: (word % 0x100) as u8,
-        }
+        };
+        Pixel { value }
     }
 
     // The stencil byte, and above it the code's bytes from the lowest one on.
     #[tactic(auto, using(crate::specs::Restoration::code_for_lem))]
-    fn encode(value: DepthStencil, pixel: &mut [u8]) {
-        let code = code_of(16777215, value.depth) as u32;
+    fn encode(pixel: Pixel, packed: &mut [u8]) {
+        let code = code_of(16777215, pixel) as u32;
         let lowest = code % 0x100;
-        let stencil = value.stencil as u32;
-        put32(pixel, code / 0x100 * 0x1_0000 + lowest * 0x100 + stencil);
+        let stencil = pixel.value.stencil as u32;
+        put32(packed, code / 0x100 * 0x1_0000 + lowest * 0x100 + stencil);
     }
 
     ghost sized = { sym size_d24s8 };
@@ -283,10 +283,10 @@ impl PackedPixel for D24S8 {
     ghost has = { sym stencil_d24s8 };
 }
 
-// A depth's four bytes, at byte `at` of a depth plane.
-pub fn store_depth(plane: &mut [u8], at: usize, depth: f32)
-    requires { (at + 4 ≤ length plane.old) × T (not (is_nan depth)) }
-    ensures { plane.new ≡ sets plane.old at (bytes 4 (to_bits binary32 depth)) }
+// The four bytes of a pixel's depth, at byte `at` of a depth plane.
+pub fn store_depth(plane: &mut [u8], at: usize, pixel: Pixel)
+    requires { at + 4 ≤ length plane.old }
+    ensures { plane.new ≡ sets plane.old at (bytes 4 (to_bits binary32 pixel.value.depth)) }
 {
-    put32(&mut plane[at..], f32::to_bits(depth));
+    put32(&mut plane[at..], f32::to_bits(pixel.value.depth));
 }

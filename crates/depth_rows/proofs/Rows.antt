@@ -1,21 +1,20 @@
 -- A row by its columns; one pixel of it, where what was decoded from a part of the packed row is stored and what was loaded is packed; and the rows of
 -- a picture. Assumes nothing.
-use Rattle.std.proofs.Common.{◌≡◌, refl, sym, ap, ap₂, ◌∙◌, subst, Bool, true, false, not, true≢false, List, ◌++◌, ℕ, ◌+◌, ◌-◌, ◌*◌, ◌≤◌, mul-one, mod-eq_of_lt, le_trans, le_of_lt, arith, T, length, take, drop, set, get_or, Float, to_bits, is_nan}
-use lib.Seq.{sets}
-use lib.Ieee.{binary32}
-use Rattle.words.specs.Little.{bytes, number, length_bytes}
-use Rattle.words.specs.Slices.{part_read, part_back}
+use Rattle.std.proofs.Common.{◌≡◌, refl, sym, ap, ap₂, ◌∙◌, Bool, true, false, true≢false, List, ◌++◌, ℕ, ◌+◌, ◌-◌, ◌*◌, ◌≤◌, mul-one, mod-eq_of_lt, arith, length, take, drop, set, get_or, Float, to_bits}
+use Rattle.std.proofs.lemmas.List.Edits.{sets}
+use Rattle.std.specs.Float.{binary32}
+use Rattle.words.specs.Little.{bytes, number_rest, length_bytes}
+use Rattle.words.specs.Slices.{part_back}
 use Rattle.words.specs.Tests.{pick}
 use Rattle.formats.specs.Table.{bytes_of}
 use Rattle.channels.specs.Floats.{clamped}
 use Rattle.depth_pixels.specs.declared.PackedDepth.{PackedDepth}
 use Rattle.depth_pixels.specs.declared.DepthStencil.{DepthStencil}
 use Rattle.depth_pixels.specs.Depth.{code_for}
-use Rattle.depth_pixels.specs.Restoration.{depth_no_nan}
-use Rattle.depth_pixels.specs.Pixels.{format_code, has_stencil, max_code, depth_code, decoded, pixel_word, encoded}
-use Rattle.depth_pixels.specs.PackedFormats.{sizes, depth_code_le, stencil_lt}
+use Rattle.depth_pixels.specs.Pixels.{format_code, has_stencil, max_code, decoded, pixel_word, encoded}
+use Rattle.depth_pixels.specs.PackedFormats.{stencil_lt}
 use Rattle.depth_pixels.specs.PixelBytes.{word_at, depth_at, depth_bytes, stencil_bytes, stencil_at, packed_bytes, depth_row, stencil_row, packed_row}
-use Rattle.depth_pixels.specs.Pictures.{place, written_row, written, row_none, row_more, rows_none, rows_more}
+use Rattle.depth_pixels.specs.Pictures.{place, written_row, written, row_none, row_more, rows_more}
 use Rattle.depth_pixels.proofs.Coding.{encoded_same}
 
 -- ---- a row by its columns: none, and one more
@@ -69,7 +68,7 @@ FromPart f packed a v = v ≡ decoded f (word_at f (take (length packed - a) (dr
 
 from_part : (f : ℕ) (packed : List ℕ) (a : ℕ) (v : DepthStencil) → FromPart f packed a v → v ≡ decoded f (word_at f packed a)
 unfolding word_at
-from_part f packed a v e = e ∙ ap (λ l. decoded f (number (take (bytes_of f) l))) (part_read packed a)
+from_part f packed a v e = e ∙ ap (decoded f) (number_rest (bytes_of f) a packed)
 
 pub depth_stored : (f : ℕ) (packed : List ℕ) (a : ℕ) (v : DepthStencil) (l : List ℕ) (to : ℕ) → FromPart f packed a v
     → sets l to (bytes 4 (to_bits binary32 v.depth)) ≡ sets l to (depth_bytes f packed a)
@@ -83,15 +82,6 @@ unfolding stencil_bytes decoded
 stencil_stored d packed a v l at x e =
     let w = word_at (format_code d) packed a in
     ap₂ (λ i b. set l i b) (ap (λ n. at + n) (sym (mul-one x))) (ap (λ v. v.stencil) (from_part (format_code d) packed a v e) ∙ sym (mod-eq_of_lt (stencil_lt d w)))
-
--- a decoded depth is no NaN
-pub decoded_no_nan : (d : PackedDepth) (packed : List ℕ) (a : ℕ) (v : DepthStencil) → FromPart (format_code d) packed a v → T (not (is_nan v.depth))
-unfolding decoded
-decoded_no_nan d packed a v e =
-    let w = word_at (format_code d) packed a in
-    let z = sizes d in
-    subst (λ v. T (not (is_nan v.depth))) (sym (from_part (format_code d) packed a v e))
-    (depth_no_nan (max_code (format_code d)) (depth_code (format_code d) w) z.max_pos (le_trans (depth_code_le d w) (le_of_lt z.max_lt)) (le_of_lt z.max_lt))
 
 -- ---- packing
 encoded_sized : (f : ℕ) (v : DepthStencil) → length (encoded f v) ≡ bytes_of f
@@ -125,18 +115,11 @@ pub depths_more : (f : ℕ) (packed : List ℕ) (pitch depth_pitch width y : ℕ
 unfolding depth_row
 depths_more f packed pitch depth_pitch width y l₀ l l' e e' = rows_more depth_pitch 4 width (λ x y. depth_bytes f packed (place pitch (bytes_of f) x y)) y l₀ l l' e e'
 
--- ---- rows of stencils: none, and one more; without a stencil the plane is as it was
+-- ---- rows of stencils: one more; without a stencil the plane is as it was
 module _ (f : ℕ) (packed : List ℕ) (pitch stencil_pitch width : ℕ) (l₀ : List ℕ) where
   -- the first y rows
   abbrev pub stencil_rows : ℕ → List ℕ
   stencil_rows y = pick (has_stencil f) (written stencil_pitch 1 width y (λ x y. stencil_bytes f packed (place pitch (bytes_of f) x y)) l₀) l₀
-
-  pub stencils_none : l₀ ≡ stencil_rows 0
-  stencils_none = go (has_stencil f)
-    where
-      go : (t : Bool) → l₀ ≡ pick t (written stencil_pitch 1 width 0 (λ x y. stencil_bytes f packed (place pitch (bytes_of f) x y)) l₀) l₀
-      go true = rows_none stencil_pitch 1 width (λ x y. stencil_bytes f packed (place pitch (bytes_of f) x y)) l₀
-      go false = refl
 
   pub stencils_more : (y : ℕ) (l l' : List ℕ) → l ≡ stencil_rows y → l' ≡ stencil_row f packed (y * pitch) (y * stencil_pitch) width l → l' ≡ stencil_rows (y + 1)
   unfolding stencil_row

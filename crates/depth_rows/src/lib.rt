@@ -12,7 +12,7 @@ ghost use Rattle.depth_pixels.specs.Pixels.{format_code, has_stencil};
 ghost use Rattle.depth_pixels.specs.PixelBytes.{depth_at, stencil_at, depth_row, stencil_row, packed_row};
 ghost use Rattle.depth_rows.specs.Rows.{RowWithin};
 
-use depth_pixels::{D16, D24S8, D24X8, DepthStencil, PackedDepth, PackedPixel, store_depth};
+use depth_pixels::{D16, D24S8, D24X8, DepthStencil, PackedDepth, PackedPixel, Pixel, store_depth};
 use words::le32;
 
 // Where the pixels of a row lie, from which byte on in the packed picture, in the depth plane and in the stencil plane, and how many
@@ -25,8 +25,9 @@ pub struct Row {
     pub width: usize,
 }
 
-// The depth whose four bytes begin at byte `at` of a depth plane. A NaN's bytes and those of a negative number count as 0.
-#[tactic(auto, using(crate::proofs::AboveInfinity::above_infinity), unfolding(depth_pixels::specs::PixelBytes::depth_at))]
+// The depth whose four bytes begin at byte `at` of a depth plane. A NaN's bytes and those of a negative number count as 0: the test is that
+// of `channels::number_bits`, whose pattern would have to be taken apart into the same two cases for what is promised here of the number.
+#[tactic(auto, using(crate::proofs::AboveInfinity::above_infinity, crate::proofs::AboveInfinity::no_nan_bits), unfolding(depth_pixels::specs::PixelBytes::depth_at))]
 fn load_depth(plane: &[u8], at: usize) -> f32
     requires { at + 4 ≤ length plane.now }
     ensures same { clamped result ≡ clamped (depth_at plane.now at) }
@@ -42,8 +43,11 @@ fn load_depth(plane: &[u8], at: usize) -> f32
 // That a row lies within its buffers (`RowWithin`) is asked of the caller and is no field of `Row`: it speaks of the lengths of what is
 // lent, and a struct would have to hold the three buffers, of which one or two are written.
 
+// Both loops go over an index: of what `chunks_exact_mut` and `zip` wrote a proof learns the length alone, which leaves open what the
+// planes and the packed row hold.
+
 // A row of pixels of one format, into its places in both planes.
-#[tactic(auto, using(crate::proofs::Rows::depths_begun, crate::proofs::Rows::depths_next, crate::proofs::Rows::stencils_begun, crate::proofs::Rows::stencils_next, crate::proofs::Rows::stencils_kept, crate::proofs::Rows::depth_stored, crate::proofs::Rows::stencil_stored, crate::proofs::Rows::decoded_no_nan))]
+#[tactic(auto, using(crate::proofs::Rows::depths_begun, crate::proofs::Rows::depths_next, crate::proofs::Rows::stencils_begun, crate::proofs::Rows::stencils_next, crate::proofs::Rows::stencils_kept, crate::proofs::Rows::depth_stored, crate::proofs::Rows::stencil_stored))]
 fn unpack_pixels<P: PackedPixel>(packed: &[u8], depth: &mut [u8], stencil: &mut [u8], row: Row)
     requires { RowWithin (format_code P.kind) (length packed.now) (length depth.old) (length stencil.old) row }
     ensures depth { depth.new ≡ depth_row (format_code P.kind) packed.now row.packed row.depth row.width depth.old }
@@ -52,9 +56,9 @@ fn unpack_pixels<P: PackedPixel>(packed: &[u8], depth: &mut [u8], stencil: &mut 
     for x in 0..row.width {
         let first = row.packed + x * P::SIZE;
         let pixel = P::decode(&packed[first..]);
-        store_depth(depth, row.depth + x * 4, pixel.depth);
+        store_depth(depth, row.depth + x * 4, pixel);
         if P::STENCIL {
-            stencil[row.stencil + x] = pixel.stencil;
+            stencil[row.stencil + x] = pixel.value.stencil;
         }
     }
 }
@@ -75,11 +79,12 @@ fn pack_pixels<P: PackedPixel>(packed: &mut [u8], depth: &[u8], stencil: &[u8], 
             },
         };
         let first = row.packed + x * P::SIZE;
-        P::encode(value, &mut packed[first..]);
+        P::encode(Pixel { value }, &mut packed[first..]);
     }
 }
 
-// No table of functions in these two: the compiler makes a loop for each format.
+// A format is known at run time alone, and its size and its stencil are constants of its type: the match in these two chooses the type, so
+// that the compiler makes a loop for each. A table of the three loops would have the same three lines, and pointers.
 
 // A row of packed pixels, into its places in both planes.
 pub fn unpack_row(kind: PackedDepth, packed: &[u8], depth: &mut [u8], stencil: &mut [u8], row: Row)

@@ -1,26 +1,28 @@
 -- What the library's methods and the code's tests give, in the words of specs/. Assumes nothing.
-use Rattle.std.proofs.Common.{◌≡◌, false, ◌&&◌, ℕ, suc, ◌+◌, ◌-◌, ◌*◌, ◌/◌, ◌%◌, ◌≤◌, ◌<◌, leb, ltb, sym, ap, ap₂, ◌∙◌, inl, inr, arith, suc-mul, mul-le-mul_right, div-add-mod', le-leb}
+use Rattle.std.proofs.Common.{◌≡◌, false, ◌&&◌, ℕ, suc, ◌+◌, ◌-◌, ◌*◌, ◌/◌, ◌%◌, ◌≤◌, ◌<◌, max, leb, ltb, sym, ap, ap₂, ◌∙◌, inl, inr, arith, suc-mul, mul-le-mul_right, div-add-mod', le-leb}
+use Rattle.std.proofs.lemmas.Bool.{and_right, cases_lt}
 use borrow.Author.Tests.{lt-leb}
 use Rattle.words.specs.Multiples.{raised, Raised, raised_is}
-use Rattle.words.specs.Tests.{split, leb_same, and_out}
+use Rattle.words.specs.Tests.{leb_same}
 use Rattle.formats.specs.Table.{bytes_of}
 use Rattle.depth_texture.specs.declared.PlaneLayout.{PlaneLayout}
 use Rattle.depth_texture.specs.Layouts.{limit, planes_fit}
 use Rattle.depth_texture.specs.Replies.{packed_holds}
 
--- the multiple of a that is n or more, and less than a above it
-pub next_raised : (n a r : ℕ) → 0 < a → n ≤ r → r < n + a → r % a ≡ 0 → r ≡ raised n a
-next_raised n a r pos low high multiple =
-    let m = raised n a in
-    let R : Raised n a m = raised_is n a pos in
-    let q = r / a in
+-- the multiple of the unit u that is n or more, and less than u above it
+pub next_raised : (a : ℕ) {n u r : ℕ} → u ≡ max 4 a → n ≤ r → r < n + u → r % u ≡ 0 → r ≡ raised n (max 4 a)
+next_raised a {n = n} {u = u} {r = r} unit low high multiple =
+    let m = raised n u in
+    let R : Raised n u m = raised_is n u (omega (arith, unit)) in
+    let q = r / u in
     let k = R.multiple.0 in
-    let whole : r ≡ q * a = omega (arith, div-add-mod' r a, multiple) in
+    let whole : r ≡ q * u = omega (arith, div-add-mod' r u, multiple) in
     let below : m ≤ r = omega (arith, R.least q (omega (arith, low, whole)), whole) in
-    elim (split q (suc k)) [
-      | inl h ↦ omega (arith, below, whole, R.multiple.1, mul-le-mul_right {m = q} {n = k} a (omega (arith, h)))
-      | inr h ↦ absurd (omega (arith, whole, high, R.enough, R.multiple.1, suc-mul k a, mul-le-mul_right {m = suc k} {n = q} a h))
-    ]
+    let same : r ≡ m = elim (cases_lt q (suc k)) [
+      | inl h ↦ omega (arith, below, whole, R.multiple.1, mul-le-mul_right {m = q} {n = k} u (omega (arith, h)))
+      | inr h ↦ absurd (omega (arith, whole, high, R.enough, R.multiple.1, suc-mul k u, mul-le-mul_right {m = suc k} {n = q} u h))
+    ] in
+    same ∙ ap (raised n) unit
 
 -- below the limit is at most the largest number of 64 bits
 below_limit : (n : ℕ) → leb n 18446744073709551615 ≡ ltb n limit
@@ -40,7 +42,7 @@ module _ (f : ℕ) (l : PlaneLayout) (len pitch size : ℕ) (e : size ≡ bytes_
   unfolding packed_holds
   short_row h =
       sym
-      (and_out (leb (l.width * bytes_of f) pitch) (leb ((l.height - 1) * pitch + l.width * bytes_of f) len)
+      (and_right (leb (l.width * bytes_of f) pitch) (leb ((l.height - 1) * pitch + l.width * bytes_of f) len)
       (ap (λ n. leb ((l.height - 1) * pitch + l.width * n) len) (sym e) ∙ lt-leb ((l.height - 1) * pitch + l.width * size) len (omega arith)))
 
   pub other_rows : l.width * size ≤ pitch → l.width * size ≤ len → leb ((l.height - 1) * pitch) (len - l.width * size) ≡ packed_holds f l len pitch

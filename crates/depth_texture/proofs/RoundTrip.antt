@@ -24,7 +24,16 @@ use Rattle.depth_texture.specs.Replies.{refusal_of, Accepts}
 use Rattle.depth_texture.specs.Refusals.{accepts, RowsWithin, rows_within}
 use Rattle.depth_pixels.specs.PixelBytes.{word_at, depth_at, depth_bytes, stencil_bytes, stencil_at, packed_bytes}
 use Rattle.depth_texture.specs.Planes.{depth_plane, stencil_plane, packed_pixels, unpacked_depth, unpacked_stencil, packed_buffer}
-use Rattle.depth_texture.specs.Promises.{Restores, SameElsewhere, PlanesKept}
+use Rattle.depth_texture.specs.Promises.{Bytewise, Restores, SameElsewhere, PlanesKept}
+
+-- the stencil that is packed is a byte
+pub stencil_small : (f : ℕ) (stencil : List ℕ) → Bytewise stencil → (a : ℕ) → stencil_at f stencil a < 256
+unfolding stencil_at
+stencil_small f stencil small a = go (has_stencil f)
+  where
+    go : (t : Bool) → pick t (get_or stencil a 0) 0 < 256
+    go true = small a
+    go false = lit< tt
 
 -- a fact of each format is one of each known code
 pub known : (P : ℕ → Type 0) → ((d : PackedDepth) → P (format_code d)) → (f : ℕ) → is_packed_depth f ≡ true → P f

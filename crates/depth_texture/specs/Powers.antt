@@ -5,9 +5,8 @@ use Rattle.std.proofs.Common.{sym, ap, ◌∙◌, subst, inl, inr, pow-suc, arit
 use Rattle.std.proofs.Math.Arith.{bin_ind}
 use Rattle.std.specs.Int.Count.{ones, ones_in, ones_step}
 use Rattle.std.proofs.lemmas.Nat.{ones_cat}
-use Rattle.std.proofs.lemmas.Bool.{eqb-false}
+use Rattle.std.proofs.lemmas.Bool.{eqb-false, cases_lt}
 use Rattle.words.specs.Iterate.{all_true, all_false}
-use Rattle.words.specs.Tests.{split}
 use Rattle.depth_texture.specs.Layouts.{PowerOfTwo, is_power_of_two}
 
 -- ---- the test
@@ -43,7 +42,7 @@ no_bits : (n : ℕ) → ones n ≡ 0 → n ≡ 0
 no_bits = bin_ind (λ n. ones n ≡ 0 → n ≡ 0) (λ h. refl) (λ n r h. let e : n / 2 ≡ 0 = r (omega (arith, ones_step n)) in omega (arith, ones_step n))
 
 counted_power : (n : ℕ) → ones n ≡ 1 → PowerOfTwo n
-counted_power = bin_ind (λ n. ones n ≡ 1 → PowerOfTwo n) (λ h. absurd (omega (arith, none_zero))) (λ n r h. elim (split (n % 2) 1) [
+counted_power = bin_ind (λ n. ones n ≡ 1 → PowerOfTwo n) (λ h. absurd (omega (arith, none_zero))) (λ n r h. elim (cases_lt (n % 2) 1) [
   | inl l ↦
       let p = r (omega (arith, ones_step n)) in
       (suc p.0, omega (arith, p.1, pow-suc 2 p.0))

@@ -12,6 +12,10 @@ use Rattle.depth_texture.specs.Replies.{refusal_of}
 use Rattle.depth_pixels.specs.PixelBytes.{depth_at}
 use Rattle.depth_texture.specs.Planes.{packed_buffer}
 
+-- a list of bytes
+abbrev pub Bytewise : List ℕ → Type 0
+Bytewise l = (i : ℕ) → get_or l i 0 < 256
+
 -- the refusal of two calls, where the second is made only if the first is accepted
 abbrev pub first_refusal : ℕ → ℕ → ℕ
 first_refusal a b = pick (eqb a 0) b a

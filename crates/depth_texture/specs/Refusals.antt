@@ -2,8 +2,8 @@
 -- Assumes nothing.
 use Rattle.std.specs.Prelude.{◌≡◌, Result, Ok, Err, Bool, not, ◌&&◌, ◌||◌, ltb, eqb, refl, true, false, ℕ, suc, ◌+◌, ◌-◌, ◌*◌, ◌≤◌, ◌<◌, max, leb}
 use Rattle.std.proofs.Common.{sym, ap, ap₂, subst, ◌∙◌, mul_comm, arith, ltb-true, lt-ltb, le-leb, leb-true, eq-eqb, ne_eqb}
-use borrow.Author.Tests.{eqb-false}
-use Rattle.words.specs.Tests.{pick, and_left, and_right, and_out, leb_same}
+use Rattle.std.proofs.lemmas.Bool.{and_parts, and_right}
+use Rattle.words.specs.Tests.{pick, leb_same, not_zero}
 use Rattle.depth_texture.specs.declared.PlaneLayout.{PlaneLayout}
 use Rattle.formats.specs.Table.{bytes_of}
 use Rattle.words.specs.Multiples.{raised, Raised, raised_is}
@@ -20,12 +20,6 @@ neither false false h = (refl, refl)
 neither false true h = let z : ◌≡◌ {A = ℕ} 0 1 = cc in absurd (omega arith)
 neither true b h = let z : ◌≡◌ {A = ℕ} 0 1 = cc in absurd (omega arith)
 
-not_zero : (n : ℕ) → eqb n 0 ≡ false → 0 < n
-not_zero n h = let ne = eqb-false n 0 h in above n ne
-  where
-    above : (n : ℕ) → (n ≡ 0 → ⊥) → 0 < n
-    above n ne = omega (arith, ne)
-
 pub stands_holds : (l : PlaneLayout) → stands l ≡ true → Stands l
 unfolding stands is_empty planes_fit
 stands_holds l h =
@@ -36,17 +30,17 @@ stands_holds l h =
     let c = leb l.width l.stencil_pitch in
     let d = ltb (l.depth_pitch * l.height) limit in
     let e = ltb (l.stencil_pitch * l.height) limit in
-    let abc = and_left (a && b && c) (d && e) h in
-    let de = and_right (a && b && c) (d && e) h in
-    let ab = and_left (a && b) c abc in
-    let none = neither w g (and_left a b ab) in
+    let abc = (and_parts (a && b && c) (d && e) h).0 in
+    let de = (and_parts (a && b && c) (d && e) h).1 in
+    let ab = (and_parts (a && b) c abc).0 in
+    let none = neither w g (and_parts a b ab).0 in
     record {
       wide = not_zero l.width none.0;
       high = not_zero l.height none.1;
-      depth_row_lem = leb-true (4 * l.width) l.depth_pitch (and_right a b ab);
-      stencil_row_lem = leb-true l.width l.stencil_pitch (and_right (a && b) c abc);
-      depth_fits = ltb-true (l.depth_pitch * l.height) limit (and_left d e de);
-      stencil_fits = ltb-true (l.stencil_pitch * l.height) limit (and_right d e de);
+      depth_row_lem = leb-true (4 * l.width) l.depth_pitch (and_parts a b ab).1;
+      stencil_row_lem = leb-true l.width l.stencil_pitch (and_parts (a && b) c abc).1;
+      depth_fits = ltb-true (l.depth_pitch * l.height) limit (and_parts d e de).0;
+      stencil_fits = ltb-true (l.stencil_pitch * l.height) limit (and_parts d e de).1;
     }
 
 pub stands_tested : (l : PlaneLayout) → Stands l → stands l ≡ true
@@ -142,7 +136,7 @@ module _ (w h a : ℕ) where
 
       pub stencil_over : leb (d * h) 18446744073709551615 ≡ true → leb (s * h) 18446744073709551615 ≡ false → Answered w h a (Err Over64Bits)
       unfolding planes_fit
-      stencil_over e f = over (and_out (ltb (d * h) limit) (ltb (s * h) limit) (past (s * h) f))
+      stencil_over e f = over (and_right (ltb (d * h) limit) (ltb (s * h) limit) (past (s * h) f))
 
       pub made : planes_fit (layout w h d s) ≡ true → Answered w h a (Ok (layout w h d s))
       unfolding layout_refusal layout_for is_empty aligned planes_fit
@@ -158,8 +152,8 @@ module _ (w h a : ℕ) where
               high = omega (arith, high);
               depth_row_lem = omega (arith, depth_is, (raised_is (w * 4) (max 4 a) unit).enough);
               stencil_row_lem = omega (arith, stencil-is, (raised_is w (max 4 a) unit).enough);
-              depth_fits = ltb-true (d * h) limit (and_left p q e);
-              stencil_fits = ltb-true (s * h) limit (and_right p q e);
+              depth_fits = ltb-true (d * h) limit (and_parts p q e).0;
+              stencil_fits = ltb-true (s * h) limit (and_parts p q e).1;
             };
             pitches = λ n. record {
               depth = subst (Raised (4 * w) (max 4 a)) (sym (depth_is ∙ ap (λ n. raised n (max 4 a)) (mul_comm w 4))) (raised_is (4 * w) (max 4 a) unit);
@@ -220,8 +214,8 @@ module _ (f : ℕ) (l : PlaneLayout) (packed pitch depth stencil : ℕ) where
       record {
         known = t.0;
         sound = stands_holds l t.1;
-        packed_row_lem = leb-true (row_bytes f l) pitch (and_left a b t.2);
-        packed_all = leb-true ((l.height - 1) * pitch + row_bytes f l) packed (and_right a b t.2);
+        packed_row_lem = leb-true (row_bytes f l) pitch (and_parts a b t.2).0;
+        packed_all = leb-true ((l.height - 1) * pitch + row_bytes f l) packed (and_parts a b t.2).1;
         depth_all = leb-true (l.depth_pitch * l.height) depth t.3;
         stencil_all = λ s. leb-true (l.stencil_pitch * l.height) stencil (asked s t.4);
       }

@@ -142,7 +142,8 @@ impl PlaneLayout {
         !kind.has_stencil() || fits(self.stencil_pitch, self.height, len)
     }
 
-    // The tests of the layout and of the buffers' lengths, for a packed depth format.
+    // The tests of the layout and of the buffers' lengths, for a packed depth format. The lengths stay numbers: `check` alone has them
+    // together, and a struct would be made at its two calls and taken apart in each test here.
     #[tactic(auto, using(depth_pixels::specs::PackedFormats::packed_known, crate::specs::Refusals::refused_10, crate::specs::Refusals::refused_11, crate::specs::Refusals::refused_12, crate::specs::Refusals::refused_13, crate::specs::Refusals::not_refused))]
     fn check_buffers(
         self,

@@ -11,7 +11,8 @@ abbrev pub Fit : (Part → ℕ) → List Part → Type 0
 Fit code [] = Unit {0}
 Fit code (p ∷ ps) = (code p < 2 ^ p.width) × Fit code ps
 
-join_lt : (h l m k : ℕ) → h < 2 ^ m → l < 2 ^ k → h * 2 ^ k + l < 2 ^ (m + k)
+-- a lane of m bits above one of k
+pub join_lt : (h l m k : ℕ) → h < 2 ^ m → l < 2 ^ k → h * 2 ^ k + l < 2 ^ (m + k)
 join_lt h l m k p q = subst (λ n. h * 2 ^ k + l < n) (sym (pow-add 2 m k)) (omega (arith, suc-mul h (2 ^ k), mul-le-mul_right (2 ^ k) p))
 
 pub packed_lt : (code : Part → ℕ) (ps : List Part) → Fit code ps → packed code ps < 2 ^ bits ps

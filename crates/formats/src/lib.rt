@@ -7,6 +7,8 @@ ghost use Rattle.std.specs.Prelude.{◌≡◌, ◌≤◌};
 ghost use Rattle.formats.specs.Table.{bytes_of};
 ghost use Rattle.words.specs.Multiples.{Raised};
 ghost use Rattle.formats.specs.Formats.{rgb_code, code_source_code, lane_source_code, packed_yuv_code, planar_yuv_code, yuv_code, source_code, Found, is_source};
+ghost use Rattle.formats.specs.declared.LaneSource.TheVariants.{Rgb};
+ghost use Rattle.formats.specs.declared.SourceFormat.TheVariants.{Lanes};
 ghost use Rattle.formats.specs.Classes.{is_convertible_rgb, is_packed_yuv, is_planar_yuv, is_code_source, is_argb_source, is_lane_source, is_yuv, linear_row_pitch};
 
 pub const D3DFMT_R8G8B8: u32 = 20;
@@ -116,18 +118,11 @@ pub fn is_code_source(d3d_format: u32) -> bool
 }
 
 // Whether a format converts into A8R8G8B8 alone.
+#[tactic(auto, using(crate::proofs::Classified::floats_argb, crate::proofs::Classified::codes_argb))]
 pub fn is_argb_source(d3d_format: u32) -> bool
     ensures { result ≡ is_argb_source d3d_format }
 {
     d3d_format == D3DFMT_A32B32G32R32F || is_code_source(d3d_format)
-}
-
-// Whether a source's texels are words with lanes: it is an RGB format, or converts into A8R8G8B8 alone.
-#[tactic(auto, using(crate::specs::Formats::lane_source_is))]
-pub fn is_lane_source(d3d_format: u32) -> bool
-    ensures { result ≡ is_lane_source d3d_format }
-{
-    LaneSource::from_d3d(d3d_format).is_some()
 }
 
 // The bytes of one texel for each code from 0 to that of A32B32G32R32F; 0 for a code that has no lanes.
@@ -138,7 +133,7 @@ const TEXEL_BYTES: [u8; 117] = [
     0, 0, 0, 0, 0, 0, 0, 0, 0, 0, 0, 0, 0, 0, 8, 2, 4, 8, 4, 8, 16,
 ];
 
-// The bytes of one texel; 0 for a code that has no lanes.
+// The bytes of one texel; 0 for a code that has no lanes, as `bytes_of` has it, which the exported contracts cite.
 #[tactic(auto, unfolding(crate::specs::Table::bytes_of, crate::specs::Table::parts_of))]
 pub fn bytes_per_texel(d3d_format: u32) -> usize
     ensures { result ≡ bytes_of d3d_format }
@@ -159,7 +154,11 @@ pub fn linear_row_pitch(width: u32) -> u32
     width.next_multiple_of(4)
 }
 
-// ---- formats as types, which all but the functions that answer the C interface take
+// ---- formats as types, which all but the functions that answer the C interface take. Each `from_d3d` finds its type by the number that
+// the C interface hands over; a number of no format is no error here: the callers say `?` in a function of an Option, `is_some()`,
+// `if let` or `let .. else`, where a `TryFrom<u32>` would give a Result that each turns back, with an error for each type that none
+// of them reads. No trait has them either: each names its own codes, or asks the types that it holds. `is_planar` and `bytes_per_texel`
+// of a type that holds others match its own variants and ask the one that is held.
 
 // A format that the converter decodes and encodes: its channels are unsigned and at most eight bits wide.
 #[derive(Clone, Copy, PartialEq, Eq)]
@@ -291,11 +290,7 @@ impl LaneSource {
         if let Some(format) = CodeSource::from_d3d(d3d_format) {
             return Some(LaneSource::Codes(format));
         }
-        if d3d_format == D3DFMT_A32B32G32R32F {
-            Some(LaneSource::Floats)
-        } else {
-            None
-        }
+        (d3d_format == D3DFMT_A32B32G32R32F).then_some(LaneSource::Floats)
     }
 
     // The bytes of one texel.
@@ -376,10 +371,7 @@ impl YuvFormat {
         if let Some(format) = PackedYuv::from_d3d(d3d_format) {
             return Some(YuvFormat::Packed(format));
         }
-        if let Some(format) = PlanarYuv::from_d3d(d3d_format) {
-            return Some(YuvFormat::Planar(format));
-        }
-        None
+        PlanarYuv::from_d3d(d3d_format).map(|format| YuvFormat::Planar(format))
     }
 }
 
@@ -390,6 +382,14 @@ pub enum SourceFormat {
     Yuv(YuvFormat),
 }
 
+impl From<RgbFormat> for SourceFormat {
+    ghost from_gives = { λ format source. source ≡ Lanes (Rgb format) };
+
+    fn from(format: RgbFormat) -> SourceFormat {
+        SourceFormat::Lanes(LaneSource::Rgb(format))
+    }
+}
+
 impl SourceFormat {
     // The format that has this code.
     pub fn from_d3d(d3d_format: u32) -> Option<SourceFormat>
@@ -398,18 +398,7 @@ impl SourceFormat {
         if let Some(format) = LaneSource::from_d3d(d3d_format) {
             return Some(SourceFormat::Lanes(format));
         }
-        if let Some(format) = YuvFormat::from_d3d(d3d_format) {
-            return Some(SourceFormat::Yuv(format));
-        }
-        None
-    }
-
-    // Whether it is a YUV format.
-    #[tactic(auto, using(crate::proofs::Classified::lanes_no_yuv, crate::proofs::Classified::yuv_is))]
-    pub fn is_yuv(self) -> bool
-        ensures { result ≡ is_yuv (source_code self) }
-    {
-        matches!(self, SourceFormat::Yuv(_))
+        YuvFormat::from_d3d(d3d_format).map(|format| SourceFormat::Yuv(format))
     }
 
     // Whether it is a planar YUV format.
@@ -420,17 +409,6 @@ impl SourceFormat {
         match self {
             SourceFormat::Lanes(_) => false,
             SourceFormat::Yuv(yuv) => yuv.is_planar(),
-        }
-    }
-
-    // The bytes of one texel; 0 for YUV, which has no texels of whole bytes of their own.
-    #[tactic(auto, using(crate::specs::Formats::yuv_no_bytes))]
-    pub fn bytes_per_texel(self) -> usize
-        ensures { result ≡ bytes_of (source_code self) }
-    {
-        match self {
-            SourceFormat::Lanes(lanes) => lanes.bytes_per_texel(),
-            SourceFormat::Yuv(_) => 0,
         }
     }
 }

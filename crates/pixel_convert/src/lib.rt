@@ -5,17 +5,18 @@
 #![tactic(auto)]
 
 ghost use Rattle.std.specs.Prelude.{◌≡◌, ℕ, ◌≤◌, ◌<◌, length};
-ghost use Rattle.formats.specs.Formats.{rgb_code, source_code};
+ghost use Rattle.formats.specs.Formats.{rgb_code};
 ghost use Rattle.convert_reply.specs.Replies.{reply_with, convert_reply};
+ghost use Rattle.convert_reply.specs.Sources.{code_of, numbers_of};
 ghost use Rattle.regions.specs.Regions.{row_written, slice_written, region_written, converted_with, converted_bytes, NearWith, NearSource, OwnWith, OthersKept};
 ghost use Rattle.regions.specs.Rows.{RowFits};
 
-use block_rows::{LaneTexels, RgbTexels};
-use convert_reply::{Conversion, ConvertRefusal, ConvertRegion, RegionRow, YuvSource};
-use formats::SourceFormat;
-use yuv_sets::{LegalSet, YuvSet};
+use convert_reply::{Conversion, ConvertRefusal, ConvertRegion, RegionRow, Source};
+use yuv_sets::YuvSet;
 
-// A row of any source; only a row of YUV uses the set.
+// `RowFits` is asked as in yuv_texels: it speaks of the lengths of `dst` and `src`, one of which is written; a struct would hold them.
+
+// A row of any source.
 fn convert_row(
     block: &mut [u32; 64],
     dst: &mut [u8],
@@ -23,32 +24,20 @@ fn convert_row(
     conversion: Conversion,
     at: RegionRow,
 )
-    requires { RowFits (length src.now) (length dst.old) (source_code conversion.pair.source) (rgb_code conversion.pair.target) at.region at.z at.row }
-    ensures { dst.new ≡ row_written conversion.numbers src.now (source_code conversion.pair.source) (rgb_code conversion.pair.target) at.region at.z at.row dst.old }
+    requires { RowFits (length src.now) (length dst.old) (code_of conversion.source) (rgb_code conversion.target.format) at.region at.z at.row }
+    ensures { dst.new ≡ row_written (numbers_of conversion.source) src.now (code_of conversion.source) (rgb_code conversion.target.format) at.region at.z at.row dst.old }
 {
-    let format = conversion.pair.target;
-    match conversion.pair.source {
-        SourceFormat::Lanes(lanes) => {
-            let target = RgbTexels {
-                format,
-                size: conversion.to_size,
-            };
-            let source = LaneTexels {
-                format: lanes,
-                size: conversion.from_size,
-            };
-            block_rows::block_row(&mut block[..], dst, target, src, source, at);
+    let target = conversion.target;
+    match conversion.source {
+        Source::Lanes(source) => {
+            block_rows::block_row(&mut block[..], dst, target, src, source, at)
         }
-        SourceFormat::Yuv(yuv) => {
-            let set = LegalSet {
-                numbers: conversion.numbers,
-            };
-            yuv_rows::texel_row(dst, format, src, YuvSource { format: yuv, set }, at);
-        }
+        Source::Yuv(source) => yuv_rows::texel_row(dst, target.format, src, source, at),
     }
 }
 
 // The rows of a slice.
+#[tactic(auto, using(words::specs::Iterate::iterate_zero, words::proofs::IterateLaws::iterate_step), unfolding(regions::specs::Regions::slice_written))]
 fn convert_slice(
     block: &mut [u32; 64],
     dst: &mut [u8],
@@ -57,8 +46,8 @@ fn convert_slice(
     region: ConvertRegion,
     z: usize,
 )
-    requires { (row : ℕ) → row < region.height → RowFits (length src.now) (length dst.old) (source_code conversion.pair.source) (rgb_code conversion.pair.target) region z row }
-    ensures { dst.new ≡ slice_written conversion.numbers src.now (source_code conversion.pair.source) (rgb_code conversion.pair.target) region z dst.old }
+    requires { (row : ℕ) → row < region.height → RowFits (length src.now) (length dst.old) (code_of conversion.source) (rgb_code conversion.target.format) region z row }
+    ensures { dst.new ≡ slice_written (numbers_of conversion.source) src.now (code_of conversion.source) (rgb_code conversion.target.format) region z dst.old }
 {
     for row in 0..region.height as usize {
         let at = RegionRow { region, z, row };
@@ -66,10 +55,12 @@ fn convert_slice(
     }
 }
 
-// Every slice, by one block.
+// Every slice, by one block of 64 words: the library has no heap, a block of each row's own would be set to zeros for each row, and an
+// array has its length in its type, where a slice would need a fact of it in each of the functions above.
+#[tactic(auto, using(words::specs::Iterate::iterate_zero, words::proofs::IterateLaws::iterate_step), unfolding(regions::specs::Regions::region_written))]
 fn convert_slices(dst: &mut [u8], src: &[u8], conversion: Conversion, region: ConvertRegion)
-    requires { (z : ℕ) → z < region.depth → (row : ℕ) → row < region.height → RowFits (length src.now) (length dst.old) (source_code conversion.pair.source) (rgb_code conversion.pair.target) region z row }
-    ensures { dst.new ≡ region_written conversion.numbers src.now (source_code conversion.pair.source) (rgb_code conversion.pair.target) region dst.old }
+    requires { (z : ℕ) → z < region.depth → (row : ℕ) → row < region.height → RowFits (length src.now) (length dst.old) (code_of conversion.source) (rgb_code conversion.target.format) region z row }
+    ensures { dst.new ≡ region_written (numbers_of conversion.source) src.now (code_of conversion.source) (rgb_code conversion.target.format) region dst.old }
 {
     let mut block = [0u32; 64];
     for z in 0..region.depth {

@@ -1,5 +1,6 @@
 -- Where a texel's bytes lie, by the kind of its picture. Assumes nothing.
-use Rattle.std.proofs.Common.{◌≡◌, true, false, ℕ, ◌+◌, ◌/◌, leb, sym, ap, ◌∙◌, arith}
+use Rattle.std.specs.Prelude.{IsOk}
+use Rattle.std.proofs.Common.{◌≡◌, true, false, ℕ, ◌+◌, ◌/◌, Result, leb, sym, ap, ◌∙◌, arith}
 use Rattle.formats.specs.Table.{bytes_of}
 use Rattle.formats.specs.Classes.{is_packed_yuv, is_planar_yuv}
 use Rattle.formats.specs.Listed.{lane_some, lane_only}
@@ -11,8 +12,12 @@ use Rattle.formats.specs.declared.YuvFormat.TheVariants.{Packed, Planar}
 use Rattle.formats.specs.declared.SourceFormat.{SourceFormat}
 use Rattle.formats.specs.declared.SourceFormat.TheVariants.{Lanes}
 use Rattle.formats.specs.Formats.{planar_yuv_code, yuv_code, lane_source_code, source_code, lane_source_is, packed_yuv_is, packed_yuv_not_planar, planar_yuv_is}
+use Rattle.planar_yuv.specs.declared.PlanarYuvLayout.{PlanarYuvLayout}
+use Rattle.planar_yuv.specs.declared.NoPlanarLayout.{NoPlanarLayout}
+use Rattle.planar_yuv.specs.Answers.{reply_of, from_pitch}
 use Rattle.places.specs.Places.{texel_start, planar_places, places_at, places_in}
 use Rattle.places.specs.Inside.{run_in, lane_places, packed_places_lem, planar_places_lem}
+use Rattle.places.proofs.Laid.{laid_some}
 
 module _ (len pitch slice_pitch z y x : ℕ) where
   pub packed_in : (f : YuvFormat) (k : PackedYuv) → f ≡ Packed k → leb (texel_start pitch slice_pitch 4 z y (x / 2) + 4) len ≡ places_in len (places_at (yuv_code f) pitch slice_pitch z y x)
@@ -38,3 +43,8 @@ module _ (len pitch slice_pitch z y x : ℕ) where
       ∙ sym (run_in len (texel_start pitch slice_pitch (bytes_of code) z y x) (bytes_of code) (lane_some code lane))
       ∙ sym (ap (places_in len) (lane_places code pitch slice_pitch z y x none.0 none.1))
       ∙ sym (ap (λ j. places_in len (places_at (source_code j) pitch slice_pitch z y x)) e)
+
+  -- a planar texel that lies within a length has a layout
+  pub texel_laid : (f : YuvFormat) (k : PlanarYuv) (r : Result PlanarYuvLayout NoPlanarLayout) → f ≡ Planar k → reply_of r ≡ from_pitch (planar_yuv_code k) pitch (slice_pitch / pitch)
+      → places_in len (places_at (yuv_code f) pitch slice_pitch z y x) ≡ true → IsOk r
+  texel_laid f k r e h i = laid_some (planar_yuv_code k) pitch (slice_pitch / pitch) len y x r h (planar_in f k e ∙ i)

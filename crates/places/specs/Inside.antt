@@ -2,9 +2,9 @@
 -- Assumes nothing.
 use Rattle.std.specs.Prelude.{◌≡◌, Bool, ◌&&◌, ◌||◌, leb, ltb, eqb, length, get_or, take, drop, refl, true, false, List, [], ◌∷◌, ℕ, zero, suc, ◌+◌, ◌*◌, ◌/◌, ◌≤◌, ◌<◌}
 use Rattle.std.proofs.Common.{sym, ap, ◌∙◌, not-suc-le-zero, drop-cons, arith, mul-le-mul_right, leb-true, le-leb, ltb-true, ltb-false, lt-ltb}
-use Rattle.std.proofs.lemmas.Bool.{false≢true}
+use Rattle.std.proofs.lemmas.Bool.{false≢true, and_parts, and_right}
 use borrow.Author.Tests.{lt-leb}
-use Rattle.words.specs.Tests.{pick, and_left, and_right, and_out, leb_same}
+use Rattle.words.specs.Tests.{pick, leb_same}
 use Rattle.formats.specs.Codes.{YV12}
 use Rattle.formats.specs.Table.{bytes_of}
 use Rattle.formats.specs.Classes.{is_packed_yuv, is_planar_yuv, is_lane_source}
@@ -48,8 +48,8 @@ below_lower len [] [] h t = refl
 below_lower len [] (b ∷ bs) h t = absurd h
 below_lower len (a ∷ as') [] h t = absurd h
 below_lower len (a ∷ as') (b ∷ bs) h t =
-    let l = ltb-true b len (and_left (ltb b len) (all_below len bs) t) in
-    rw (lt-ltb a len (omega (arith, h.0)), below_lower len as' bs h.1 (and_right (ltb b len) (all_below len bs) t)) refl
+    let l = ltb-true b len (and_parts (ltb b len) (all_below len bs) t).0 in
+    rw (lt-ltb a len (omega (arith, h.0)), below_lower len as' bs h.1 (and_parts (ltb b len) (all_below len bs) t).1) refl
 
 run_lower : (n a b : ℕ) → a ≤ b → NoLower (run a n) (run b n)
 run_lower zero a b h = tt
@@ -138,13 +138,13 @@ texel_lower len f pitch slice_pitch z y x z' y' x' hz hy hx h =
     let xs = leb x' 4294967295 in
     let ys = leb y' 4294967295 in
     let ps = places_in len (places_at f pitch slice_pitch z' y' x') in
-    let small = and_left (xs && ys) ps h in
-    let lx = leb-true x' 4294967295 (and_left xs ys small) in
-    let ly = leb-true y' 4294967295 (and_right xs ys small) in
+    let small = (and_parts (xs && ys) ps h).0 in
+    let lx = leb-true x' 4294967295 (and_parts xs ys small).0 in
+    let ly = leb-true y' 4294967295 (and_parts xs ys small).1 in
     rw (
       le-leb x 4294967295 (omega arith),
       le-leb y 4294967295 (omega arith),
-      places_lower z y x z' y' x' hz hy hx len f pitch slice_pitch (and_right (xs && ys) ps h),
+      places_lower z y x z' y' x' hz hy hx len f pitch slice_pitch (and_parts (xs && ys) ps h).1,
     ) refl
 
 -- what a texel that is inside has
@@ -159,11 +159,11 @@ texel_fits len f pitch slice_pitch z y x h =
     let xs = leb x 4294967295 in
     let ys = leb y 4294967295 in
     let ps = places_in len (places_at f pitch slice_pitch z y x) in
-    let small = and_left (xs && ys) ps h in
+    let small = (and_parts (xs && ys) ps h).0 in
     record {
-      column = leb-true x 4294967295 (and_left xs ys small);
-      row = leb-true y 4294967295 (and_right xs ys small);
-      places = and_right (xs && ys) ps h;
+      column = leb-true x 4294967295 (and_parts xs ys small).0;
+      row = leb-true y 4294967295 (and_parts xs ys small).1;
+      places = (and_parts (xs && ys) ps h).1;
     }
 
 -- a column or a row beyond 32 bits
@@ -173,7 +173,7 @@ texel_out_x len f pitch slice_pitch z y x h = rw (lt-leb x 4294967295 h) refl
 
 pub texel_out_y : (len f pitch slice_pitch z y x : ℕ) → 4294967295 < y → texel_in len f pitch slice_pitch z y x ≡ false
 unfolding texel_in
-texel_out_y len f pitch slice_pitch z y x h = rw (and_out (leb x 4294967295) (leb y 4294967295) (lt-leb y 4294967295 h)) refl
+texel_out_y len f pitch slice_pitch z y x h = rw (and_right (leb x 4294967295) (leb y 4294967295) (lt-leb y 4294967295 h)) refl
 
 pub texel_in_lem : (len f pitch slice_pitch z y x : ℕ) → x ≤ 4294967295 → y ≤ 4294967295 → places_in len (places_at f pitch slice_pitch z y x) ≡ texel_in len f pitch slice_pitch z y x
 unfolding texel_in

@@ -1,9 +1,9 @@
 -- What is left of a room after a product, in whole numbers of any size.
 -- Assumes nothing.
 use Rattle.std.specs.Prelude.{◌≡◌, refl, Bool, true, false, ℕ, ◌+◌, ◌*◌, ◌-◌, ◌≤◌, ◌<◌, leb, Option, Some, None}
-use Rattle.std.proofs.Common.{sym, arith, leb-true, leb-false, le-leb}
+use Rattle.std.proofs.Common.{arith, leb-true, leb-false, le-leb}
 use Rattle.std.proofs.lemmas.Bool.{lt-leb}
-use Rattle.words.specs.Tests.{pick, leb_same}
+use Rattle.words.specs.Tests.{pick}
 
 -- what is left of a room after a times b, if that is not more than the room
 unfoldable pub remaining_after : (a b room : ℕ) → Option ℕ

@@ -5,10 +5,8 @@
 
 ghost use Rattle.std.specs.Prelude.{◌≡◌, true, ◌+◌, ◌^◌, ◌<◌, ◌/◌, leb, SomeIff};
 ghost use Rattle.formats.specs.Formats.{planar_yuv_code, yuv_code, source_code};
-ghost use Rattle.planar_yuv.specs.Offsets.{u_offset_at, v_offset_at};
-ghost use Rattle.planar_yuv.specs.Answers.{reply_of, layout_of, from_pitch, Legal};
+ghost use Rattle.planar_yuv.specs.Answers.{reply_of, from_pitch, Legal};
 ghost use Rattle.places.specs.Places.{texel_start, layout_places, planar_places, places_at, places_in, inside_all};
-ghost use Rattle.places.specs.Planar.{LayoutFor};
 
 use formats::{PlanarYuv, SourceFormat, YuvFormat};
 use planar_yuv::{NoPlanarLayout, PlanarTexel, PlanarYuvLayout};
@@ -70,27 +68,7 @@ impl Pitches {
     }
 }
 
-// The U byte of a planar texel.
-#[tactic(auto, using(planar_yuv::proofs::ByFormat::u_yv12, planar_yuv::proofs::ByFormat::u_nv12))]
-pub fn u_offset(format: PlanarYuv, texel: PlanarTexel) -> usize
-    ensures { result ≡ u_offset_at (planar_yuv_code format) texel.layout.pitch texel.layout.luma_rows texel.x texel.y }
-{
-    match format {
-        PlanarYuv::YV12 => texel.yv12_u_offset(),
-        PlanarYuv::NV12 => texel.nv12_uv_offset(),
-    }
-}
-
-// Its V byte.
-#[tactic(auto, using(planar_yuv::proofs::ByFormat::v_yv12, planar_yuv::proofs::ByFormat::v_nv12, crate::specs::Planar::nv12_small))]
-pub fn v_offset(format: PlanarYuv, texel: PlanarTexel) -> usize
-    ensures { result ≡ v_offset_at (planar_yuv_code format) texel.layout.pitch texel.layout.luma_rows texel.x texel.y }
-{
-    match format {
-        PlanarYuv::YV12 => texel.yv12_v_offset(),
-        PlanarYuv::NV12 => texel.nv12_uv_offset() + 1,
-    }
-}
+// Row and column alone in these two: a planar picture is one slice, and of a `Spot` nothing would read z.
 
 // Whether a layout has texel (x, y), and its three bytes lie within len.
 #[tactic(auto, using(crate::proofs::Texel::texel_of, crate::specs::Planar::has_not, crate::specs::Planar::has_no_luma, crate::specs::Planar::has_no_u, crate::specs::Planar::has_v))]
@@ -101,13 +79,21 @@ fn layout_has(len: usize, format: PlanarYuv, layout: PlanarYuvLayout, y: usize, 
     if !layout.contains(x, y) {
         return false;
     }
-    let texel = PlanarTexel { layout, x, y };
-    texel.luma_offset() < len && u_offset(format, texel) < len && v_offset(format, texel) < len
+    let texel = PlanarTexel {
+        format,
+        layout,
+        x,
+        y,
+    };
+    texel.luma_offset() < len && texel.u_offset() < len && texel.v_offset() < len
 }
 
 // The layout of a planar picture, which has as many luma rows as its slice has rows.
 #[tactic(auto, using(planar_yuv::proofs::Refused::no_pitch))]
-fn layout_in_slice(format: PlanarYuv, pitches: Pitches) -> Result<PlanarYuvLayout, NoPlanarLayout>
+pub fn layout_in_slice(
+    format: PlanarYuv,
+    pitches: Pitches,
+) -> Result<PlanarYuvLayout, NoPlanarLayout>
     ensures { reply_of result ≡ from_pitch (planar_yuv_code format) pitches.row (pitches.slice / pitches.row) }
 {
     let Some(luma_rows) = pitches.slice.checked_div(pitches.row) else {
@@ -116,7 +102,8 @@ fn layout_in_slice(format: PlanarYuv, pitches: Pitches) -> Result<PlanarYuvLayou
     planar_yuv::layout_from_pitch(format, pitches.row, luma_rows)
 }
 
-// Whether the bytes of texel (x, y) of a planar picture lie within len.
+// Whether the bytes of texel (x, y) of a planar picture lie within len. A match: in `is_ok_and` a closure would have to ask, by a `requires`
+// of its own, for the legal layout that it is handed.
 #[tactic(auto, using(crate::proofs::Laid::laid_in))]
 fn planar_has(len: usize, format: PlanarYuv, pitches: Pitches, y: usize, x: usize) -> bool
     ensures { result ≡ places_in len (planar_places (planar_yuv_code format) pitches.row (pitches.slice / pitches.row) y x) }
@@ -127,6 +114,10 @@ fn planar_has(len: usize, format: PlanarYuv, pitches: Pitches, y: usize, x: usiz
     }
 }
 
+// A length and pitches stay two here: a struct of both would be made in `inside`, where alone they meet, and `layout_has` asks for no
+// pitches.
+
+// A match in these two, not a table of functions or a dyn: each arm asks another function, of other parameters, that a variant holds.
 // Whether the bytes of a YUV texel lie within len.
 #[tactic(auto, using(crate::proofs::ByKind::packed_in, crate::proofs::ByKind::planar_in))]
 fn yuv_places_in(len: usize, format: YuvFormat, pitches: Pitches, at: Spot) -> bool
@@ -167,21 +158,4 @@ pub fn inside(len: usize, format: SourceFormat, pitches: Pitches, part: Part) ->
         x: x as usize,
     };
     places_in(len, format, pitches, last)
-}
-
-// The layout of a YUV source: zeros where it has none.
-pub fn source_layout(format: YuvFormat, pitches: Pitches) -> PlanarYuvLayout
-    ensures is { result ≡ layout_of (from_pitch (yuv_code format) pitches.row (pitches.slice / pitches.row)) }
-    ensures places { LayoutFor (yuv_code format) pitches.row (pitches.slice / pitches.row) result }
-{
-    let none = PlanarYuvLayout {
-        pitch: 0,
-        luma_rows: 0,
-        chroma_rows: 0,
-        total_bytes: 0,
-    };
-    match format {
-        YuvFormat::Packed(_) => none,
-        YuvFormat::Planar(planar) => layout_in_slice(planar, pitches).unwrap_or(none),
-    }
 }

@@ -4,7 +4,7 @@ use Rattle.std.specs.Int.{div_ceil}
 use Rattle.std.proofs.lemmas.Bool.{false≢true}
 use Rattle.formats.specs.Codes.{NV12, YV12}
 use Rattle.formats.specs.Classes.{is_planar_yuv}
-use Rattle.planar_yuv.specs.Answers.{Reply, refusal, from_pitch, given, not_given, by_nv12}
+use Rattle.planar_yuv.specs.Answers.{Reply, refusal, from_pitch, given, not_given}
 
 pub no_pitch : (f pitch rows : ℕ) → pitch ≡ 0 → refusal ≡ from_pitch f pitch rows
 no_pitch f pitch rows h = sym (not_given (λ a. omega (arith, a.pitch_some)))
@@ -48,8 +48,3 @@ no_planar f pitch rows h = sym (not_given (λ a. false≢true (sym h ∙ a.plana
 
 pub odd_yv12 : (f pitch rows : ℕ) → f ≡ YV12 → (rows % 2 ≡ 0 → ⊥) → refusal ≡ from_pitch f pitch rows
 odd_yv12 f pitch rows e n = sym (not_given (λ a. n (a.rows_even e)))
-
--- luma rows of YV12 that are even are laid out as NV12's
-pub even_yv12 : (pitch rows : ℕ) → rows % 2 ≡ 0 → from_pitch NV12 pitch rows ≡ from_pitch YV12 pitch rows
-unfolding is_planar_yuv
-even_yv12 pitch rows h = by_nv12 YV12 pitch rows refl (λ e. h)

@@ -2,8 +2,8 @@
 -- Assumes nothing.
 use Rattle.std.specs.Prelude.{◌≡◌, refl, Bool, true, false, ◌&&◌, ℕ, ◌%◌, ◌≤◌, ◌<◌, leb, Result, Ok, Err}
 use Rattle.std.proofs.Common.{sym, ap, ◌∙◌, arith, le-leb}
-use Rattle.std.proofs.lemmas.Bool.{lt-leb}
-use Rattle.words.specs.Tests.{pick, and_out}
+use Rattle.std.proofs.lemmas.Bool.{lt-leb, and_right}
+use Rattle.words.specs.Tests.{pick}
 use Rattle.formats.specs.Codes.{NV12, YV12}
 use Rattle.formats.specs.Classes.{is_planar_yuv, linear_row_pitch, max_texture_dim}
 use Rattle.planar_yuv.specs.declared.PlanarYuvLayout.{PlanarYuvLayout}
@@ -156,7 +156,7 @@ width_none f width height e = rw (lt-leb 1 width (omega arith)) refl
 pub width_large : (f width height : ℕ) → max_texture_dim < width → refusal ≡ from_width f width height
 unfolding from_width
 width_large f width height h =
-    sym (ap (λ t. pick t (from_pitch f (linear_row_pitch width) height) refusal) (and_out (leb 1 width) (leb width max_texture_dim) (lt-leb width max_texture_dim h)))
+    sym (ap (λ t. pick t (from_pitch f (linear_row_pitch width) height) refusal) (and_right (leb 1 width) (leb width max_texture_dim) (lt-leb width max_texture_dim h)))
 
 pub rows_hold : (f width height : ℕ) (r : Result PlanarYuvLayout NoPlanarLayout) → reply_of r ≡ from_pitch f (linear_row_pitch width) height → RowsHold width r
 rows_hold f width height (Ok l) e =

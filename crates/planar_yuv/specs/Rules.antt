@@ -2,7 +2,8 @@
 -- Assumes nothing.
 use Rattle.std.specs.Prelude.{◌≡◌, refl, Bool, true, false, ◌&&◌, ℕ, ◌+◌, ◌*◌, ◌/◌, ◌%◌, ◌≤◌, leb, eqb}
 use Rattle.std.proofs.Common.{subst, arith, leb-true, le-leb, eqb-true, eq-eqb}
-use Rattle.words.specs.Tests.{pick, and_left, and_right}
+use Rattle.std.proofs.lemmas.Bool.{and_parts}
+use Rattle.words.specs.Tests.{pick}
 use Rattle.formats.specs.Codes.{YV12}
 use Rattle.words.specs.Multiples.{raised}
 use Rattle.formats.specs.Classes.{is_planar_yuv, linear_row_pitch, max_texture_dim}
@@ -55,21 +56,21 @@ allowed_yes {f} {pitch} {rows} a =
 pub allowed_is : (f pitch rows : ℕ) → allowed f pitch rows ≡ true → Allowed f pitch rows
 unfolding allowed
 allowed_is f pitch rows e =
-    let e1 = and_right (is_planar_yuv f) _ e in
-    let e2 = and_right (leb 1 pitch) _ e1 in
-    let e3 = and_right (leb pitch max_texture_dim) _ e2 in
-    let e4 = and_right (eqb (pitch % 2) 0) _ e3 in
-    let e5 = and_right (leb 1 rows) _ e4 in
-    let e6 = and_right (leb rows max_texture_dim) _ e5 in
+    let e1 = (and_parts (is_planar_yuv f) _ e).1 in
+    let e2 = (and_parts (leb 1 pitch) _ e1).1 in
+    let e3 = (and_parts (leb pitch max_texture_dim) _ e2).1 in
+    let e4 = (and_parts (eqb (pitch % 2) 0) _ e3).1 in
+    let e5 = (and_parts (leb 1 rows) _ e4).1 in
+    let e6 = (and_parts (leb rows max_texture_dim) _ e5).1 in
     record {
-      planar = and_left (is_planar_yuv f) _ e;
-      pitch_some = leb-true 1 pitch (and_left (leb 1 pitch) _ e1);
-      pitch_most = leb-true pitch max_texture_dim (and_left (leb pitch max_texture_dim) _ e2);
-      pitch_even = eqb-true (pitch % 2) 0 (and_left (eqb (pitch % 2) 0) _ e3);
-      rows_some = leb-true 1 rows (and_left (leb 1 rows) _ e4);
-      rows_most = leb-true rows max_texture_dim (and_left (leb rows max_texture_dim) _ e5);
-      rows_even = even_of f rows (and_left (even_rows f rows) _ e6);
-      together = leb-true (rows + chroma_rows_of rows) max_texture_dim (and_right (even_rows f rows) _ e6);
+      planar = (and_parts (is_planar_yuv f) _ e).0;
+      pitch_some = leb-true 1 pitch (and_parts (leb 1 pitch) _ e1).0;
+      pitch_most = leb-true pitch max_texture_dim (and_parts (leb pitch max_texture_dim) _ e2).0;
+      pitch_even = eqb-true (pitch % 2) 0 (and_parts (eqb (pitch % 2) 0) _ e3).0;
+      rows_some = leb-true 1 rows (and_parts (leb 1 rows) _ e4).0;
+      rows_most = leb-true rows max_texture_dim (and_parts (leb rows max_texture_dim) _ e5).0;
+      rows_even = even_of f rows (and_parts (even_rows f rows) _ e6).0;
+      together = leb-true (rows + chroma_rows_of rows) max_texture_dim (and_parts (even_rows f rows) _ e6).1;
     }
 
 pub allowed_no : {f pitch rows : ℕ} → (Allowed f pitch rows → ⊥) → allowed f pitch rows ≡ false

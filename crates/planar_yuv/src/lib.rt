@@ -16,7 +16,9 @@ mod texel;
 
 pub use texel::PlanarTexel;
 
-// Where the planes of a frame stand.
+// Where the planes of a frame stand. That it is legal (`Legal`) is asked of the caller and no ghost field: the definitions have a layout of
+// zeros for what is refused (`layout_of`), which is not. A type that wraps it would stand in the two exported answers, whose definitions
+// (`reply_of`, `PlanesOf`) read a `PlanarYuvLayout`.
 #[derive(Clone, Copy)]
 pub struct PlanarYuvLayout {
     pub pitch: u32,
@@ -26,7 +28,7 @@ pub struct PlanarYuvLayout {
 }
 
 // Refusal 14.
-#[derive(Clone, Copy, PartialEq, Eq)]
+#[derive(Clone, Copy, Debug, PartialEq, Eq)]
 pub struct NoPlanarLayout;
 
 impl From<NoPlanarLayout> for u32 {
@@ -91,7 +93,7 @@ pub fn planar_yuv_layout_from_pitch(
 }
 
 // The same of a planar format.
-#[tactic(auto, using(crate::proofs::Refused::too_wide, crate::proofs::Refused::too_tall, crate::proofs::Refused::odd_yv12, crate::proofs::Refused::even_yv12, crate::proofs::AnswersLaws::planes_of))]
+#[tactic(auto, using(crate::proofs::Refused::too_wide, crate::proofs::Refused::too_tall, crate::proofs::Refused::odd_yv12, crate::specs::Answers::yv12_even, crate::proofs::AnswersLaws::planes_of))]
 pub fn layout_from_pitch(
     format: PlanarYuv,
     pitch: usize,

@@ -2,14 +2,26 @@
 use Rattle.std.proofs.Common.{◌≡◌, refl, Bool, true, false, ◌||◌, List, ℕ, ◌+◌, ◌<◌, eqb, length, get_or, Result, Ok, Err, ap, ◌∙◌, subst, arith, eqb-true}
 use Rattle.std.proofs.Math.Path.{sym}
 use Rattle.std.proofs.lemmas.Bool.{false≢true}
-use Rattle.words.specs.Iterate.{iterate_keeps}
+use Rattle.words.specs.Iterate.{iterate, iterate_keeps}
+use Rattle.std.proofs.lemmas.List.Edits.{sets}
+use Rattle.formats.specs.Classes.{is_yuv}
+use Rattle.formats.specs.Formats.{lane_source_code, yuv_code}
+use Rattle.formats.proofs.Classified.{lanes_no_yuv}
+use Rattle.texels.specs.declared.Texel.{Texel}
+use Rattle.texels.specs.Texels.{encoded_bytes}
+use Rattle.yuv_sets.specs.Sets.{bt601}
+use Rattle.convert_reply.specs.declared.Source.{Source}
+use Rattle.convert_reply.specs.declared.Source.TheVariants.{Lanes, Yuv}
+use Rattle.convert_reply.specs.Sources.{code_of, numbers_of, OfSet}
+use Rattle.places.specs.Places.{places_at, bytes_at}
 use Rattle.yuv_sets.specs.declared.YuvSet.{YuvSet}
 use Rattle.convert_reply.specs.declared.ConvertRegion.{ConvertRegion}
 use Rattle.convert_reply.specs.declared.ConvertRefusal.{ConvertRefusal}
 use Rattle.places.specs.Inside.{texel_fits}
 use Rattle.places.proofs.InsideLaws.{inside_at}
-use Rattle.convert_reply.specs.Replies.{illegal_set, is_empty, source_inside, destination_inside, reply_with, if_accepted}
-use Rattle.regions.specs.Regions.{row_written, slice_written, region_written, converted_with, InRegion, NearWith, OwnWith, OthersKept}
+use Rattle.convert_reply.specs.Replies.{is_empty, source_inside, destination_inside, reply_with, if_accepted}
+use Rattle.regions.specs.Fetch.{any_texel}
+use Rattle.regions.specs.Regions.{texel_at, to_at, odd_at, source_texel, written, row_written, slice_written, region_written, converted_with, InRegion, NearWith, OwnWith, OthersKept}
 use Rattle.convert_reply.specs.Passed.{convert_rgb, passed, sizes}
 use Rattle.regions.proofs.Promises.{destination_fits, near_source, own_bytes, others_kept}
 use Rattle.regions.specs.Rows.{RowFits}
@@ -34,6 +46,19 @@ empty_written numbers src dst s d r h =
     (λ row rl. iterate_keeps P _ r.width
     (λ col cl b p. absurd (none_empty r h z row col (record { slice = zl; line = rl; column = cl })))))
     dst refl
+
+-- ---- of texels with lanes the set is not looked at, and a YUV source is converted by its own
+any_set : (a b : YuvSet) (src : List ℕ) (s d : ℕ) (r : ConvertRegion) (l : List ℕ) → is_yuv s ≡ false → region_written a src s d r l ≡ region_written b src s d r l
+unfolding region_written slice_written row_written written source_texel texel_at
+any_set a b src s d r l h =
+    ap (λ (t : Bool → List ℕ → Texel).
+    iterate (λ z. iterate (λ row. iterate (λ col dst. sets dst (to_at d r z row col) (encoded_bytes d (t (odd_at r col) (bytes_at src (places_at s r.src_pitch r.src_slice_pitch z (r.src_y + row) (r.src_x + col)))))) r.width) r.height) r.depth l)
+    (λ i odd bs. any_texel a b s odd bs h i)
+
+pub by_its_set : (numbers : YuvSet) (source : Source) → OfSet numbers source → (src : List ℕ) (d : ℕ) (r : ConvertRegion) (l : List ℕ)
+    → region_written (numbers_of source) src (code_of source) d r l ≡ region_written numbers src (code_of source) d r l
+by_its_set numbers (Lanes t) h src d r l = any_set bt601 numbers src (lane_source_code t.format) d r l (lanes_no_yuv t.format)
+by_its_set numbers (Yuv s) h src d r l = ap (λ n. region_written n src (yuv_code s.format) d r l) h
 
 -- ---- the reply, and the bytes after it
 abbrev Answer : YuvSet → (src dst : List ℕ) (s d : ℕ) → ConvertRegion → Result (Unit {0}) ConvertRefusal → List ℕ → Type 0
@@ -66,10 +91,7 @@ module _ (numbers : YuvSet) (src dst : List ℕ) (s d : ℕ) (r : ConvertRegion)
     ),
   )
 
-  -- ---- the set, and the rows of a region that is inside
-  pub set_fits : reply_with numbers src dst s d r ≡ Ok tt → is_empty r ≡ false → illegal_set s numbers ≡ false
-  set_fits h n = (passed numbers s d r (length src) (length dst) n h).set
-
+  -- ---- the rows of a region that is inside
   pub rows_fit : reply_with numbers src dst s d r ≡ Ok tt → is_empty r ≡ false
       → (z : ℕ) → z < r.depth → (row : ℕ) → row < r.height → RowFits (length src) (length dst) s d r z row
   unfolding source_inside destination_inside

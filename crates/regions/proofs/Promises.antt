@@ -1,5 +1,5 @@
 -- Near, own and kept hold of every conversion. Assumes nothing.
-use Rattle.std.proofs.Common.{◌≡◌, refl, Bool, true, false, ℤ, pos, negsuc, length, get_or, take, drop, Result, Ok, Err, sym, ap, ◌∙◌, subst, div-one, ne_eqb, List, [], ◌∷◌, ℕ, zero, suc, ◌+◌, ◌-◌, ◌/◌, ◌^◌, ◌≤◌, ◌<◌, arith}
+use Rattle.std.proofs.Common.{◌≡◌, refl, Bool, true, false, ℤ, length, get_or, take, drop, Result, Ok, Err, sym, ap, ◌∙◌, subst, div-one, ne_eqb, List, [], ◌∷◌, ℕ, zero, suc, ◌+◌, ◌-◌, ◌/◌, ◌^◌, ◌≤◌, ◌<◌, arith}
 use Rattle.words.specs.Little.{number}
 use Rattle.words.specs.Tests.{pick}
 use Rattle.formats.specs.Lanes.{Channel, red, green, blue, Lane, nowhere, at}
@@ -16,7 +16,7 @@ use Rattle.stretch_rect.specs.Yuv.{rgb_of, red_rounded, green_rounded, blue_roun
 use Rattle.stretch_rect.proofs.NearnessLaws.{set_near}
 use Rattle.stretch_rect.specs.Exact.{RgbStands}
 use Rattle.stretch_rect.proofs.ExactLaws.{bt601_stands, set_stands}
-use Rattle.words.specs.Integers.{clamp_to}
+use Rattle.words.specs.Integers.{clamp_byte}
 use Rattle.convert_reply.specs.declared.ConvertRegion.{ConvertRegion}
 use Rattle.convert_reply.specs.declared.ConvertRefusal.{ConvertRefusal}
 use Rattle.texels.specs.declared.Texel.{Texel}
@@ -46,11 +46,6 @@ destination_fits d r m rgb h z row col t =
     let x = r.dst_x + col in
     let k = texel_fits m d r.dst_pitch r.dst_slice_pitch z y x (inside_at m d r.dst_pitch r.dst_slice_pitch r.dst_x r.dst_y r.width r.height r.depth h z row col t.slice t.line t.column) in
     lane_ends m d r.dst_pitch r.dst_slice_pitch z y x k.places (rgb_not_planar d rgb) (rgb_not_packed d rgb) (rgb_some d rgb)
-
-clamp_byte : (z : ℤ) → clamp_to 255 z < 256
-unfolding clamp_to
-clamp_byte (pos n) = omega arith
-clamp_byte (negsuc n) = omega arith
 
 -- ---- what an accepted conversion stores at a texel that shares no byte
 stored : (numbers : YuvSet) (src dst : List ℕ) (s d : ℕ) (r : ConvertRegion) → reply_to numbers s d r (length src) (length dst) ≡ Ok tt → Disjoint d r

@@ -1,11 +1,11 @@
 -- The source texel by the kind of its picture, and what an offset that is worked out afresh stays below. Assumes nothing.
 use Rattle.std.specs.Prelude.{◌≡◌, refl, Bool, true, false, ◌&&◌, ◌||◌, eqb, ltb, length, take, drop, List, [], ◌∷◌, ℕ, ◌+◌, ◌/◌, ◌%◌, ◌≤◌, ◌<◌}
 use Rattle.std.proofs.Common.{sym, ap₂, ◌∙◌, arith, get_or-take, ltb-true, ap}
-use Rattle.std.proofs.lemmas.Bool.{false≢true}
+use Rattle.std.proofs.lemmas.Bool.{false≢true, and_parts}
 use Rattle.std.proofs.lemmas.List.Edits.{sets}
 use Rattle.words.specs.Little.{number}
 use Rattle.words.specs.Iterate.{iterate_same}
-use Rattle.words.specs.Tests.{pick, and_left, and_right}
+use Rattle.words.specs.Tests.{pick}
 use Rattle.formats.specs.Codes.{YUY2}
 use Rattle.formats.specs.Table.{bytes_of}
 use Rattle.formats.specs.Classes.{is_packed_yuv, is_planar_yuv, is_yuv, is_lane_source}
@@ -66,7 +66,7 @@ module _ (numbers : YuvSet) (src : List ℕ) (f pitch slice_pitch z y x : ℕ) w
   planar_texel p = ap (λ l. texel_of numbers f (eqb (x % 2) 1) (bytes_at src l)) (planar_places_lem f pitch slice_pitch z y x p)
 
 -- ---- a source that is no YUV has no use for the set
-any_texel : (a b : YuvSet) (f : ℕ) (odd : Bool) (bs : List ℕ) → is_yuv f ≡ false → texel_of a f odd bs ≡ texel_of b f odd bs
+pub any_texel : (a b : YuvSet) (f : ℕ) (odd : Bool) (bs : List ℕ) → is_yuv f ≡ false → texel_of a f odd bs ≡ texel_of b f odd bs
 unfolding texel_of
 any_texel a b f odd bs h =
     ap (λ t. pick t (opaque_of (rgb_of a (luma_of f odd bs) (u_of f bs) (v_of f bs))) (decoded_of f (number bs))) h
@@ -126,12 +126,12 @@ readable f frame l y x g h = go (contains l.pitch l.luma_rows x y) refl h
     go true e k =
         let i = contains_is l.pitch l.luma_rows x y e in
         let n = length frame in
-        let rest = and_right (ltb lo n) (ltb uo n && (ltb vo n && true)) k in
+        let rest = (and_parts (ltb lo n) (ltb uo n && (ltb vo n && true)) k).1 in
         record {
           texel = record { legal = g; column = i.0; row = i.1 };
-          luma_read = ltb-true lo n (and_left (ltb lo n) (ltb uo n && (ltb vo n && true)) k);
-          u_read = ltb-true uo n (and_left (ltb uo n) (ltb vo n && true) rest);
-          v_read = ltb-true vo n (and_left (ltb vo n) true (and_right (ltb uo n) (ltb vo n && true) rest));
+          luma_read = ltb-true lo n (and_parts (ltb lo n) (ltb uo n && (ltb vo n && true)) k).0;
+          u_read = ltb-true uo n (and_parts (ltb uo n) (ltb vo n && true) rest).0;
+          v_read = ltb-true vo n (and_parts (ltb vo n) true (and_parts (ltb uo n) (ltb vo n && true) rest).1).0;
         }
     go false e k = absurd (false≢true k)
 

@@ -12,6 +12,8 @@ use crate::record::{Record, Records};
 #[derive(Clone, Copy)]
 pub(crate) struct Buffers;
 
+// Two impls alike, here and in values.rt: as a method of the trait over `Record<'_, SIZE>` neither got a proof, since the check did not fit
+// its signature, by the lifetime or the const parameter (tried).
 impl Records<512> for Buffers {
     fn outcome(self, bytes: &[u8; 512]) -> Outcome {
         let record: Record<'_, 512> = Record { bytes };
@@ -19,7 +21,8 @@ impl Records<512> for Buffers {
     }
 }
 
-// Whether the call answers as the record says; it does not if its records are in another file.
+// Whether the call answers as the record says; it does not if its records are in another file. A match: a table of calls and functions would
+// be searched for the call, and what it found be called through a pointer; an arm has both side by side.
 fn agrees(call: Call, record: Record<'_, 512>) -> bool {
     match call {
         Call::ConvertRegion => convert_region(record),
@@ -31,6 +34,8 @@ fn agrees(call: Call, record: Record<'_, 512>) -> bool {
     }
 }
 
+// The four are asked for a place by a literal; a place that is known to be one would be a type of its own for each of the three bounds,
+// made of that literal at each of the calls.
 impl<'a> Record<'a, 512> {
     /// One of the five areas.
     fn area(self, place: usize) -> &'a [u8; 72]

@@ -5,6 +5,8 @@ use crate::call::Call;
 use crate::counts::Outcome;
 
 /// The records of a file, of SIZE bytes each.
+// A trait of one method, and no `Fn(&[u8; SIZE]) -> Outcome`: of a function that is handed over `replay` and `replay_file` would have to ask,
+// by a `requires`, that it may be called with every record; an impl may be called as it is.
 pub(crate) trait Records<const SIZE: usize>: Copy {
     /// Computes the call of a record anew.
     fn outcome(self, record: &[u8; SIZE]) -> Outcome;
@@ -12,6 +14,8 @@ pub(crate) trait Records<const SIZE: usize>: Copy {
 
 /// The bytes of a record: the call's number and 1 for a refusal (else 0), of 32 bits each, and then numbers of 64 bits, which are
 /// the call's parameters first.
+// A slice with its length beside: with `&'a [u8; SIZE]` the borrow checker takes no part `[4..]` of an array whose length is a parameter,
+// and for a slice of the whole it stays open that SIZE is below 2^63.
 #[derive(Clone, Copy)]
 pub(crate) struct Record<'a, const SIZE: usize> {
     pub bytes: &'a [u8],
@@ -59,8 +63,7 @@ impl<const SIZE: usize> Record<'_, SIZE> {
     pub(crate) fn number(self, place: usize) -> u32
         requires { 16 + 8 * place ≤ SIZE }
     {
-        let bytes = self.bytes;
-        words::le32(&bytes[8 + 8 * place..])
+        (self.long(place) % 0x1_0000_0000) as u32
     }
 
     /// What comes of the record, where `agrees` says whether the call answers as it says.

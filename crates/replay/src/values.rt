@@ -1,6 +1,6 @@
 // Cases of the public calls that take and give numbers only. A record of the file `values` has 64 bytes: the call's number and
 // 1 for a refusal (else 0), of 32 bits each; three parameters of 64 bits; 32 bytes of answer, zeros where there is less or a refusal.
-ghost use Rattle.std.specs.Prelude.{◌≡◌, ◌<◌, length};
+ghost use Rattle.std.specs.Prelude.{◌<◌};
 
 use crate::call::Call;
 use crate::counts::Outcome;
@@ -18,7 +18,7 @@ impl Records<64> for Values {
     }
 }
 
-// Whether the call answers as the record says; it does not if its records are in another file.
+// Whether the call answers as the record says; it does not if its records are in another file. A match, as in buffers.rt.
 fn agrees(call: Call, record: Record<'_, 64>) -> bool {
     match call {
         Call::CanConvert => can_convert(record),
@@ -35,7 +35,7 @@ fn agrees(call: Call, record: Record<'_, 64>) -> bool {
 }
 
 impl<'a> Record<'a, 64> {
-    /// A parameter of 8 bits.
+    /// A parameter of 8 bits. Its place is a literal at each of the three calls, and a type for it would be made of that literal.
     fn byte(self, place: usize) -> u8
         requires { place < 3 }
     {
@@ -43,13 +43,14 @@ impl<'a> Record<'a, 64> {
     }
 
     /// The bytes of the answer.
-    fn answer(self) -> &'a [u8]
-        ensures { length result.now ≡ 32 }
-    {
+    fn answer(self) -> &'a [u8; 32] {
         let bytes = self.bytes;
-        &bytes[32..]
+        bytes[32..].first_chunk().unwrap()
     }
 }
+
+// A case for each call, here and in buffers.rt: those that look alike differ in the call and in the types of its parameters, and one
+// function over `Fn` would be handed a closure that says what stands here.
 
 fn can_convert(record: Record<'_, 64>) -> bool {
     wentuqis::wentuqis_can_convert(record.number(0), record.number(1)) != record.is_refused()

@@ -16,6 +16,7 @@ impl Records<16> for Vectors {
         let expected = words::le32(&record[12..]);
         Outcome {
             call,
+            // None of these calls refuses: the word after the call's number is an argument.
             is_refused: false,
             differs: call.and_then(|call| answer(call, a, b)) != Some(expected),
         }
@@ -23,6 +24,8 @@ impl Records<16> for Vectors {
 }
 
 // What this library computes, or `None` for a call whose records are in another file, and for arguments that it does not take.
+// A match: the functions take one byte, three, a word or an argument as it is, and answer with 8, 16 or 32 bits, so a table would have a
+// closure around each of them.
 fn answer(call: Call, a: u32, b: u32) -> Option<u32> {
     let [byte, green, red, _] = a.to_le_bytes();
     let word = u16::from_le_bytes([byte, green]);
@@ -48,6 +51,8 @@ fn answer(call: Call, a: u32, b: u32) -> Option<u32> {
     Some(answer)
 }
 
+// Scales are the numbers that records have as an argument: a type of them would be made of the number and matched at once.
+
 // The nearest code, for the scales that are recorded.
 fn nearest_code(channel: u8, max: u32) -> Option<u32> {
     match max {
@@ -56,7 +61,8 @@ fn nearest_code(channel: u8, max: u32) -> Option<u32> {
     }
 }
 
-// The nearest byte by the function of its own scale.
+// The nearest byte by the function of its own scale, which the match chooses: the three take words of two types, so that a table would
+// have three closures.
 fn nearest_byte(code: u32, max: u32) -> Option<u32> {
     let byte = match max {
         3 => channels::expand::<2>((code % 4) as u16),

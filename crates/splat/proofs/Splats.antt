@@ -1,11 +1,13 @@
 -- A pattern written from the front of a slice on, by a byte, by a block, and to the end. Assumes nothing.
 use Rattle.std.proofs.Common.{◌≡◌, refl, sym, ap, ◌∙◌, subst, List, [], ◌∷◌, ◌++◌, inl, inr, ⊎_elim, ℕ, ◌+◌, ◌*◌, ◌-◌, ◌/◌, ◌%◌, ◌≤◌, ◌<◌, mod-lt, div-add-mod', add-zero, mul_assoc, arith, length, get_or, set, take, drop, length-drop, length-append, get_or-set_same, get_or-set_other, take-suc, get_or-take, get_or-append-add, length-take-le, get_or-drop, add-one}
+use Rattle.std.proofs.lemmas.Bool.{cases_lt}
+use Rattle.std.proofs.lemmas.List.{take_rest}
 use native.Mathlib.Nat.{mul-add-mod_self_right, mul-mod_left}
 use lib.Arith.{digits_mod, lt_of_le-ne}
 use lib.ListN.{get_or-append}
-use lib.Seq.{sets}
-use Rattle.words.specs.Slices.{sets_append, sets_before, sets_inside, part_back, part_read}
-use Rattle.words.specs.Tests.{lt_or_eq, split}
+use Rattle.std.proofs.lemmas.List.Edits.{sets}
+use Rattle.words.specs.Slices.{sets_append, sets_before, sets_inside, part_back}
+use Rattle.words.specs.Tests.{lt_or_eq}
 use Rattle.splat.specs.Splat.{Splat}
 
 -- the bytes below place `at` are the pattern's
@@ -56,7 +58,7 @@ block_turn l b i h =
 
 pub done_block : (pixel dst block : List ℕ) (at : ℕ) → at + length block ≤ length dst → at % length pixel ≡ 0 → Done pixel block (length block) → Done pixel dst at
     → Done pixel (sets dst at block) (at + length block)
-done_block pixel dst block at h e b d k l = elim (split k at) [
+done_block pixel dst block at h e b d k l = elim (cases_lt k at) [
   | inl below ↦ sets_before dst at block k below ∙ d k below
   | inr inside ↦
       let i = k - at in
@@ -72,7 +74,7 @@ pub done_rest : (pixel before dst w : List ℕ) (at k : ℕ) → length dst ≡ 
     → Splat pixel (take k (drop at dst)) w → Done pixel dst at → Splat pixel before (take at dst ++ (w ++ drop k (drop at dst)))
 done_rest pixel before dst w at k z h q e N s d = record {
   same_length = omega (arith, length-append (take at dst) (w ++ drop k (drop at dst)), length-append w (drop k (drop at dst)), length-drop k (drop at dst), length-drop at dst, front, back);
-  repeated = λ p i l. elim (split i at) [
+  repeated = λ p i l. elim (cases_lt i at) [
     | inl below ↦ get_or-append (take at dst) (w ++ drop k (drop at dst)) 0 i (omega (arith, front)) ∙ get_or-take at dst i 0 below ∙ d i below
     | inr after ↦
         let j = i - at in
@@ -118,7 +120,7 @@ turn_of pixel dst block w before at k q h N e n s p d =
 -- ---- a block from `back` bytes before, a whole number of patterns, at a place up to which all is done
 pub done_copy : (pixel dst : List ℕ) (m p back n : ℕ) → p ≤ m → back ≤ p → n ≤ back → p + n ≤ length dst → back % length pixel ≡ 0 → Done pixel dst m
     → Done pixel (sets dst p (take n (drop (p - back) dst))) (p + n)
-done_copy pixel dst m p back n h g f u e d k l = elim (split k p) [
+done_copy pixel dst m p back n h g f u e d k l = elim (cases_lt k p) [
   | inl below ↦ sets_before dst p part k below ∙ d k (omega arith)
   | inr inside ↦
       let i = k - p in
@@ -143,7 +145,7 @@ pub copied : (dst block w : List ℕ) (at from : ℕ) → from + 48 ≤ length d
     → w ≡ sets (take (length dst - at) (drop at dst)) 0 block
     → take at dst ++ (w ++ drop (length dst - at) (drop at dst)) ≡ sets dst at (take 48 (drop from dst))
 copied dst block w at from f h e p =
-    ap (λ x. take at dst ++ (x ++ drop (length dst - at) (drop at dst))) (p ∙ ap (sets (take (length dst - at) (drop at dst)) 0) (e ∙ ap (take 48) (part_read dst from)))
+    ap (λ x. take at dst ++ (x ++ drop (length dst - at) (drop at dst))) (p ∙ ap (sets (take (length dst - at) (drop at dst)) 0) (e ∙ ap (take 48) (take_rest dst from)))
     ∙ part_back dst at (length dst - at) part refl (omega (arith, count))
   where
     part : List ℕ

@@ -2,7 +2,7 @@
 -- Assumes nothing.
 use Rattle.std.specs.Prelude.{◌≡◌, List, ℕ, ◌+◌, ◌%◌, ◌≤◌, ◌<◌, length, get_or}
 use Rattle.std.proofs.Common.{sym, ◌∙◌, inl, inr, arith, ext_get_or}
-use Rattle.words.specs.Tests.{split}
+use Rattle.std.proofs.lemmas.Bool.{cases_lt}
 
 -- byte i is the pattern's byte i mod n, for a pattern of n bytes; an empty one changes nothing
 pub record Splat (pattern before after : List ℕ) : Type 0 where
@@ -12,7 +12,7 @@ pub record Splat (pattern before after : List ℕ) : Type 0 where
 
 -- that settles every byte
 pub one_splat : (pattern before x y : List ℕ) → Splat pattern before x → Splat pattern before y → x ≡ y
-one_splat pattern before x y p q = elim (split 0 (length pattern)) [
+one_splat pattern before x y p q = elim (cases_lt 0 (length pattern)) [
   | inl n ↦ ext_get_or 0 x y (p.same_length ∙ sym q.same_length) (λ i l. p.repeated n i (omega (arith, p.same_length)) ∙ sym (q.repeated n i (omega (arith, p.same_length))))
   | inr n ↦ p.empty (omega arith) ∙ sym (q.empty (omega arith))
 ]

@@ -1,7 +1,7 @@
 -- The numbers of bt601 are document 01's decimals, rounded to 65536ths: so near that each byte is within 1/2 + 1/500 of what the
 -- decimals define, clamped. Assumes nothing.
 use Rattle.std.proofs.Common.{◌≡◌, ℕ, ◌+◌, ◌*◌, ◌<◌, ◌≤◌, ℤ, pos, ◌-ℤ◌, ◌*ℤ◌, ap, ⊎_elim, arith}
-use Rattle.words.specs.Integers.{up, dn, up_pos, dn_pos, one_zero, sum, difference, times_up, times_dn}
+use Rattle.words.specs.Integers.{up, dn, one_zero, sum, difference, times_up, times_dn, scaled_difference}
 use Rattle.yuv_sets.specs.Sets.{bt601}
 use Rattle.stretch_rect.specs.Yuv.{set_unit, set_slack, decimal_unit, decimal_slack, ByteNear, RgbNear, rgb_of, red_exact, green_exact, blue_exact, luma_exact, chroma_exact, luma_decimal, chroma_decimal, red_decimal, green_decimal, blue_decimal}
 use Rattle.stretch_rect.specs.Nearness.{clamp_is}
@@ -19,28 +19,21 @@ moved x d b c n = record {
   not_below = ⊎_elim (λ e. omega (arith, clamp_is 510000000 d, clamp_is 1095216660480 x)) (λ e. omega (arith, clamp_is 510000000 d, clamp_is 1095216660480 x)) (one_zero d);
 }
 
--- (a - b) k, in parts
-line : (a b k : ℕ) → up ((pos a -ℤ pos b) *ℤ pos k) + b * k ≡ dn ((pos a -ℤ pos b) *ℤ pos k) + a * k
-line a b k = omega (arith, times_up (pos a -ℤ pos b) k, times_dn (pos a -ℤ pos b) k, ap (λ n. n * k) whole)
-  where
-    whole : up (pos a -ℤ pos b) + b ≡ dn (pos a -ℤ pos b) + a
-    whole = omega (arith, difference (pos a) (pos b), up_pos a, dn_pos a, up_pos b, dn_pos b)
-
 luma_line : (y : ℕ) → up (luma_exact 1052836 76284 y) + 80314541424 ≡ dn (luma_exact 1052836 76284 y) + y * 4999348224
 unfolding luma_exact
-luma_line y = omega (arith, line (y * 65536) 1052836 76284)
+luma_line y = omega (arith, scaled_difference (y * 65536) 1052836 76284)
 
 luma_decimal_line : (y : ℕ) → up (luma_decimal y) + 37399320 ≡ dn (luma_decimal y) + y * 2328000
 unfolding luma_decimal
-luma_decimal_line y = omega (arith, line (y * 1000) 16065 2328)
+luma_decimal_line y = omega (arith, scaled_difference (y * 1000) 16065 2328)
 
 chroma_line : (g c : ℕ) → up (chroma_exact 255 g c) + 8355840 * g ≡ dn (chroma_exact 255 g c) + 65536 * (c * g)
 unfolding chroma_exact
-chroma_line g c = omega (arith, times_up ((pos (c * 2) -ℤ pos 255) *ℤ pos 32768) g, times_dn ((pos (c * 2) -ℤ pos 255) *ℤ pos 32768) g, ap (λ n. n * g) (line (c * 2) 255 32768))
+chroma_line g c = omega (arith, times_up ((pos (c * 2) -ℤ pos 255) *ℤ pos 32768) g, times_dn ((pos (c * 2) -ℤ pos 255) *ℤ pos 32768) g, ap (λ n. n * g) (scaled_difference (c * 2) 255 32768))
 
 chroma_decimal_line : (g c : ℕ) → up (chroma_decimal g c) + 255000 * g ≡ dn (chroma_decimal g c) + 2000 * (c * g)
 unfolding chroma_decimal
-chroma_decimal_line g c = omega (arith, line (c * 2) 255 (g * 1000))
+chroma_decimal_line g c = omega (arith, scaled_difference (c * 2) 255 (g * 1000))
 
 module _ (y u v : ℕ) (hy : y < 256) (hu : u < 256) (hv : v < 256) where
   red_close : Close (red_exact bt601 y u v) (red_decimal y u v)

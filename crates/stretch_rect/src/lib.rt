@@ -11,7 +11,7 @@ ghost use Rattle.yuv_sets.specs.Sets.{bt601};
 ghost use Rattle.stretch_rect.specs.Yuv.{luma_part, chroma_part, nearest_whole, rgb_of, RgbNear, set_unit, set_slack, red_exact, green_exact, blue_exact, decimal_unit, decimal_slack, red_decimal, green_decimal, blue_decimal};
 ghost use Rattle.stretch_rect.specs.Samples.{packed_rgb, planar_rgb, Readable};
 
-use formats::{PackedYuv, PlanarYuv};
+use formats::PackedYuv;
 use planar_yuv::PlanarTexel;
 use yuv_sets::LegalSet;
 
@@ -23,7 +23,8 @@ pub struct Rgb {
     pub b: u8,
 }
 
-// The luma's part, in 65536ths.
+// The luma's part, in 65536ths. Luma and chroma stay two, here and in `yuv_lines::Line`: one function would take chroma's offset as
+// `centre * 32768`, and a law would have to join that to `chroma_part`, which speaks of halves.
 #[tactic(auto, using(std::proofs::lemmas::Int::ints, crate::proofs::Sizes::gained_fits), unfolding(crate::specs::Yuv::luma_part, crate::specs::Yuv::luma_exact))]
 fn scaled_luma(set: LegalSet, luma: u8) -> i64
     ensures is { result ≡ luma_part set.numbers.luma_offset set.numbers.luma_gain luma }
@@ -44,22 +45,20 @@ fn scaled_chroma(sample: u8, centre: u32, gain: u32) -> i64
     ((sample as i64 * 2 - centre as i64) * 32768 * gain as i64) >> 16
 }
 
-// The nearest byte to a channel in 65536ths.
-#[tactic(auto, using(std::proofs::lemmas::Int::ints, crate::proofs::Clamps::below, crate::proofs::Clamps::between, crate::proofs::Clamps::above), unfolding(crate::specs::Yuv::nearest_whole))]
+// The nearest byte to a channel in 65536ths. In 64 bits, for the products of any legal set: `yuv_parts::to8` is the same in 32, which the
+// entries of its tables have. One function over both types would want a trait of integers with a sum, a shift and a clamp, and the laws
+// of each.
+#[tactic(auto, using(std::proofs::lemmas::Int::ints, crate::proofs::Clamps::clamped), unfolding(crate::specs::Yuv::nearest_whole))]
 fn to8(channel: i64) -> u8
     requires { unsigned_abs channel ≤ 4611686018427387904 }
     ensures { result ≡ clamp_to 255 (nearest_whole channel) }
 {
     let n = (channel + 32768) >> 16;
-    // clamp, and min with max, have a jump more for each channel: 24.7 ns a texel of YUY2 where this has 23.2.
-    if n < 0 {
-        return 0;
-    }
-    if n < 255 {
-        return n as u8;
-    }
-    255
+    n.clamp(0, 255) as u8
 }
+
+// Luma, U and V stay three in these: `yuv_to_rgb8` gets them one by one from the C interface, and a texel's are taken out of its bytes at
+// the call.
 
 // The colour of a sample by any legal set of numbers.
 #[tactic(auto, using(std::proofs::lemmas::Int::ints))]
@@ -98,7 +97,7 @@ pub fn decode_packed_yuv(set: LegalSet, format: PackedYuv, macropixel: &[u8], od
     ensures { result ≡ packed_rgb set.numbers (packed_yuv_code format) macropixel.now odd }
 {
     let luma = if odd { 2 } else { 0 };
-    // No table of functions: each arm hands literals on, so that the compiler makes code for each format.
+    // No table of functions or of closures: there are two formats, an arm is three numbers, and what chose an entry would be this match.
     match format {
         PackedYuv::YUY2 => { convert_with_set(set, macropixel[luma], macropixel[1], macropixel[3]) }
         PackedYuv::UYVY => {
@@ -108,22 +107,13 @@ pub fn decode_packed_yuv(set: LegalSet, format: PackedYuv, macropixel: &[u8], od
 }
 
 // A texel of a planar frame: its own luma byte, and the chroma that its 2 x 2 block shares.
-#[tactic(auto, using(planar_yuv::proofs::ByFormat::u_yv12, planar_yuv::proofs::ByFormat::u_nv12, planar_yuv::proofs::ByFormat::v_yv12, planar_yuv::proofs::ByFormat::v_nv12), unfolding(crate::specs::Samples::planar_rgb))]
-pub fn decode_planar_yuv(set: LegalSet, format: PlanarYuv, frame: &[u8], texel: PlanarTexel) -> Rgb
-    requires { Readable (planar_yuv_code format) frame.now texel.layout texel.x texel.y }
-    ensures { result ≡ planar_rgb set.numbers (planar_yuv_code format) frame.now texel.layout.pitch texel.layout.luma_rows texel.x texel.y }
+#[tactic(auto, unfolding(crate::specs::Samples::planar_rgb))]
+pub fn decode_planar_yuv(set: LegalSet, frame: &[u8], texel: PlanarTexel) -> Rgb
+    requires { Readable (planar_yuv_code texel.format) frame.now texel.layout texel.x texel.y }
+    ensures { result ≡ planar_rgb set.numbers (planar_yuv_code texel.format) frame.now texel.layout.pitch texel.layout.luma_rows texel.x texel.y }
 {
     let luma = texel.luma_offset();
-    // No table of functions: each arm names its own offsets, so that the compiler makes code for each format.
-    match format {
-        PlanarYuv::YV12 => {
-            let u = texel.yv12_u_offset();
-            let v = texel.yv12_v_offset();
-            convert_with_set(set, frame[luma], frame[u], frame[v])
-        }
-        PlanarYuv::NV12 => {
-            let pair = texel.nv12_uv_offset();
-            convert_with_set(set, frame[luma], frame[pair], frame[pair + 1])
-        }
-    }
+    let u = texel.u_offset();
+    let v = texel.v_offset();
+    convert_with_set(set, frame[luma], frame[u], frame[v])
 }

@@ -1,6 +1,8 @@
 -- The parts of a word, each shifted onto bits that are clear. Assumes nothing.
-use Rattle.std.proofs.Common.{◌≡◌, ap, ap₂, ◌∙◌, ℕ, ◌+◌, ◌*◌, ◌/◌, ◌%◌, ◌<◌, bit_and, bit_or, arith}
+use Rattle.std.proofs.Common.{◌≡◌, ap, ap₂, ◌∙◌, subst, ℕ, ◌+◌, ◌*◌, ◌/◌, ◌%◌, ◌^◌, ◌≤◌, ◌<◌, bit_and, bit_or, arith}
 use Rattle.std.proofs.lemmas.Nat.{and_mask}
+use Rattle.formats.specs.Packing.{join_lt}
+use Rattle.channels.specs.Expansion.{truncated, truncates}
 use Rattle.texels.specs.Words.{onto, part_onto}
 
 -- ---- on a word of 16 bits
@@ -9,21 +11,24 @@ pub parts_565 : (r g b : ℕ) → r < 32 → g < 64 → b < 32 → bit_or (r * 2
 parts_565 r g b h i j =
     ap (λ x. bit_or (r * 2048 % 65536) x) (part_onto g 6 5 b i (omega arith) j) ∙ part_onto r 5 11 (g * 32 + b) h (omega arith) (omega arith)
 
--- one, and three times five
-pub parts_1555 : (a r g b : ℕ) → a < 2 → r < 32 → g < 32 → b < 32
-    → bit_or (a * 32768 % 65536) (bit_or (r * 1024 % 65536) (bit_or (g * 32 % 65536) b)) ≡ a * 32768 + (r * 1024 + (g * 32 + b))
-parts_1555 a r g b h i j k =
-    ap (λ x. bit_or (a * 32768 % 65536) (bit_or (r * 1024 % 65536) x)) (part_onto g 5 5 b j (omega arith) k)
-    ∙ ap (λ x. bit_or (a * 32768 % 65536) x) (part_onto r 5 10 (g * 32 + b) i (omega arith) (omega arith))
-    ∙ part_onto a 1 15 (r * 1024 + (g * 32 + b)) h (omega arith) (omega arith)
+-- n bits, and three times k
+parts_of_widths : (n k a r g b : ℕ) → n + 3 * k ≤ 16 → a < 2 ^ n → r < 2 ^ k → g < 2 ^ k → b < 2 ^ k
+    → bit_or (a * 2 ^ (3 * k) % 65536) (bit_or (r * 2 ^ (2 * k) % 65536) (bit_or (g * 2 ^ k % 65536) b)) ≡ a * 2 ^ (3 * k) + (r * 2 ^ (2 * k) + (g * 2 ^ k + b))
+parts_of_widths n k a r g b f ha hr hg hb =
+    let two : g * 2 ^ k + b < 2 ^ (2 * k) = subst (λ i. g * 2 ^ k + b < 2 ^ i) (omega arith) (join_lt g b k k hg hb) in
+    let three : r * 2 ^ (2 * k) + (g * 2 ^ k + b) < 2 ^ (3 * k) =
+    subst (λ i. r * 2 ^ (2 * k) + (g * 2 ^ k + b) < 2 ^ i) (omega arith) (join_lt r (g * 2 ^ k + b) k (2 * k) hr two) in
+    ap (λ x. bit_or (a * 2 ^ (3 * k) % 65536) (bit_or (r * 2 ^ (2 * k) % 65536) x)) (part_onto g k k b hg (omega arith) hb)
+    ∙ ap (λ x. bit_or (a * 2 ^ (3 * k) % 65536) x) (part_onto r k (2 * k) (g * 2 ^ k + b) hr (omega arith) two)
+    ∙ part_onto a n (3 * k) (r * 2 ^ (2 * k) + (g * 2 ^ k + b)) ha f three
 
--- four times four
-pub parts_4444 : (a r g b : ℕ) → a < 16 → r < 16 → g < 16 → b < 16
-    → bit_or (a * 4096 % 65536) (bit_or (r * 256 % 65536) (bit_or (g * 16 % 65536) b)) ≡ a * 4096 + (r * 256 + (g * 16 + b))
-parts_4444 a r g b h i j k =
-    ap (λ x. bit_or (a * 4096 % 65536) (bit_or (r * 256 % 65536) x)) (part_onto g 4 4 b j (omega arith) k)
-    ∙ ap (λ x. bit_or (a * 4096 % 65536) x) (part_onto r 4 8 (g * 16 + b) i (omega arith) (omega arith))
-    ∙ part_onto a 4 12 (r * 256 + (g * 16 + b)) h (omega arith) (omega arith)
+-- the top n bits of a byte, and three times the top k bits
+pub parts_argb : (n k a r g b : ℕ) → n ≤ 8 → k ≤ 8 → n + 3 * k ≤ 16 → a < 256 → r < 256 → g < 256 → b < 256
+    → bit_or (truncated n a * 2 ^ (3 * k) % 65536) (bit_or (truncated k r * 2 ^ (2 * k) % 65536) (bit_or (truncated k g * 2 ^ k % 65536) (truncated k b)))
+    ≡ truncated n a * 2 ^ (3 * k) + (truncated k r * 2 ^ (2 * k) + (truncated k g * 2 ^ k + truncated k b))
+parts_argb n k a r g b n8 k8 f ha hr hg hb =
+    parts_of_widths n k (truncated n a) (truncated k r) (truncated k g) (truncated k b) f
+    (truncates n n8 a ha).code (truncates k k8 r hr).code (truncates k k8 g hg).code (truncates k k8 b hb).code
 
 -- ---- on a word of 32 bits
 -- the top five, six and five bits of three bytes

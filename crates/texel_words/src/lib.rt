@@ -3,12 +3,13 @@
 // Ported from pixel_convert.rs of athei/mtld3d (an altered version, see NOTICE).
 #![tactic(auto, unfolding(texels::specs::Texels::encoded_of, formats::specs::Table::parts_of, channels::specs::Expansion::truncated))]
 
-ghost use Rattle.std.specs.Prelude.{◌≡◌, ◌≤◌, length, take};
+ghost use Rattle.std.specs.Prelude.{◌≡◌, ◌+◌, ◌*◌, ◌^◌, ◌≤◌, ◌<◌, length, take};
 ghost use Rattle.std.proofs.lemmas.List.Edits.{sets};
 ghost use Rattle.words.specs.Little.{number};
 ghost use Rattle.formats.specs.Codes.{R8G8B8, A8R8G8B8, X8R8G8B8, R5G6B5, X1R5G5B5, A1R5G5B5, A4R4G4B4, A8, A8B8G8R8, X8B8G8R8, L8, A8L8};
 ghost use Rattle.formats.specs.Table.{bytes_of};
 ghost use Rattle.formats.specs.Formats.{rgb_code, lane_source_code};
+ghost use Rattle.channels.specs.Expansion.{truncated};
 ghost use Rattle.texels.specs.Texels.{decoded_of, encoded_of, encoded_bytes};
 
 use formats::{LaneSource, RgbFormat};
@@ -34,9 +35,9 @@ fn encode_x8r8g8b8(t: Texel) -> u32
     encode_a8r8g8b8(t.opaque())
 }
 
-// A function for each of these: as instances of one over the widths A1R5G5B5 took 1.2 times as long to write, A4R4G4B4 1.1 (measured).
+// Not one of `encode_argb`: green has a bit more, and there is no alpha.
 #[tactic(auto, using(crate::proofs::Parts::parts_565), unfolding(texels::specs::Texels::encoded_of, formats::specs::Table::parts_of, channels::specs::Expansion::truncated))]
-fn encode_r5g6b5(t: Texel) -> u16
+pub fn encode_r5g6b5(t: Texel) -> u16
     ensures { result ≡ encoded_of R5G6B5 t }
 {
     let r5 = channels::truncate::<5>(t.r);
@@ -45,15 +46,24 @@ fn encode_r5g6b5(t: Texel) -> u16
     (r5 << 11) | ((g6 << 5) | b5)
 }
 
-#[tactic(auto, using(crate::proofs::Parts::parts_1555), unfolding(texels::specs::Texels::encoded_of, formats::specs::Table::parts_of, channels::specs::Expansion::truncated))]
-fn encode_a1r5g5b5(t: Texel) -> u16
+// Sixteen bits at most: the top ALPHA bits of alpha, and the top COLOUR bits of each colour.
+#[tactic(auto, using(crate::proofs::Parts::parts_argb))]
+fn encode_argb<const ALPHA: u32, const COLOUR: u32>(t: Texel) -> u16
+    requires widths { (0 < ALPHA) × (ALPHA ≤ 8) × (0 < COLOUR) × (COLOUR ≤ 8) }
+    requires fits { ALPHA + 3 * COLOUR ≤ 16 }
+    ensures { result ≡ truncated ALPHA t.a * 2 ^ (3 * COLOUR) + (truncated COLOUR t.r * 2 ^ (2 * COLOUR) + (truncated COLOUR t.g * 2 ^ COLOUR + truncated COLOUR t.b)) }
+{
+    let a = channels::truncate::<ALPHA>(t.a);
+    let r = channels::truncate::<COLOUR>(t.r);
+    let g = channels::truncate::<COLOUR>(t.g);
+    let b = channels::truncate::<COLOUR>(t.b);
+    (a << (3 * COLOUR)) | ((r << (2 * COLOUR)) | ((g << COLOUR) | b))
+}
+
+pub fn encode_a1r5g5b5(t: Texel) -> u16
     ensures { result ≡ encoded_of A1R5G5B5 t }
 {
-    let a1 = channels::truncate::<1>(t.a);
-    let r5 = channels::truncate::<5>(t.r);
-    let g5 = channels::truncate::<5>(t.g);
-    let b5 = channels::truncate::<5>(t.b);
-    (a1 << 15) | ((r5 << 10) | ((g5 << 5) | b5))
+    encode_argb::<1, 5>(t)
 }
 
 fn encode_x1r5g5b5(t: Texel) -> u16
@@ -62,15 +72,10 @@ fn encode_x1r5g5b5(t: Texel) -> u16
     encode_a1r5g5b5(t.opaque())
 }
 
-#[tactic(auto, using(crate::proofs::Parts::parts_4444), unfolding(texels::specs::Texels::encoded_of, formats::specs::Table::parts_of, channels::specs::Expansion::truncated))]
-fn encode_a4r4g4b4(t: Texel) -> u16
+pub fn encode_a4r4g4b4(t: Texel) -> u16
     ensures { result ≡ encoded_of A4R4G4B4 t }
 {
-    let a4 = channels::truncate::<4>(t.a);
-    let r4 = channels::truncate::<4>(t.r);
-    let g4 = channels::truncate::<4>(t.g);
-    let b4 = channels::truncate::<4>(t.b);
-    (a4 << 12) | ((r4 << 8) | ((g4 << 4) | b4))
+    encode_argb::<4, 4>(t)
 }
 
 fn encode_a8(t: Texel) -> u8
@@ -79,7 +84,7 @@ fn encode_a8(t: Texel) -> u8
     t.a
 }
 
-fn encode_a8b8g8r8(t: Texel) -> u32
+pub fn encode_a8b8g8r8(t: Texel) -> u32
     ensures { result ≡ encoded_of A8B8G8R8 t }
 {
     u32::from_le_bytes([t.r, t.g, t.b, t.a])
@@ -103,7 +108,7 @@ fn encode_a8l8(t: Texel) -> u16
     u16::from_le_bytes([channels::luminance(t.r, t.g, t.b), t.a])
 }
 
-// The bytes of a texel at the front of `out`, in one of the RGB formats.
+// The bytes of a texel at the front of `out`, in one of the RGB formats. A `match`, and a length asked for, as in `texels::decode_rgb`.
 #[tactic(auto, unfolding(texels::specs::Texels::encoded_bytes, formats::specs::Table::bytes_of, formats::specs::Table::parts_of))]
 pub fn encode_rgb_pixel(format: RgbFormat, t: Texel, out: &mut [u8])
     requires { bytes_of (rgb_code format) ≤ length out.old }
@@ -127,7 +132,7 @@ pub fn encode_rgb_pixel(format: RgbFormat, t: Texel, out: &mut [u8])
 
 // ---- A8R8G8B8 words, which stand for texels between the reading and the writing of a block of them
 
-// The texel at the front of `px`, of any format with lanes, as its A8R8G8B8 word.
+// The texel at the front of `px`, of any format with lanes, as its A8R8G8B8 word. A length is asked for, as in `texels::decode_rgb`.
 #[tactic(auto)]
 pub fn read_word(format: LaneSource, px: &[u8]) -> u32
     requires { bytes_of (lane_source_code format) ≤ length px.now }
@@ -136,7 +141,8 @@ pub fn read_word(format: LaneSource, px: &[u8]) -> u32
     encode_a8r8g8b8(texels::decode_pixel(format, px))
 }
 
-// The R5G6B5 word of a word's texel: the top bits of each lane, with no byte between.
+// The R5G6B5 word of a word's texel: the top bits of each lane in the word's own 32 bits. Another way than `encode_r5g6b5`, which goes
+// through bytes and words of sixteen: 0.35 ns a texel for 0.39 (docs/DECISIONS.md).
 #[tactic(auto, using(crate::proofs::Parts::parts_of_bytes, texels::proofs::Lanes::expanded_byte), unfolding(texels::specs::Texels::decoded_of, texels::specs::Texels::encoded_of, texels::specs::Texels::colour_of, formats::specs::Table::lane_of, formats::specs::Table::parts_of, channels::specs::Expansion::truncated))]
 fn word_r5g6b5(word: u32) -> u16
     ensures { result ≡ encoded_of R5G6B5 (decoded_of A8R8G8B8 word) }
@@ -147,7 +153,8 @@ fn word_r5g6b5(word: u32) -> u16
     ((r5 << 11) | ((g6 << 5) | b5)) as u16
 }
 
-// The bytes of a word's texel at the front of `out`, in one of the RGB formats.
+// The bytes of a word's texel at the front of `out`, in one of the RGB formats. The match is for the one format with a shorter way; a
+// length is asked for, as above.
 #[tactic(auto, unfolding(texels::specs::Texels::encoded_bytes, formats::specs::Table::bytes_of, formats::specs::Table::parts_of))]
 pub fn write_word(format: RgbFormat, word: u32, out: &mut [u8])
     requires { bytes_of (rgb_code format) ≤ length out.old }

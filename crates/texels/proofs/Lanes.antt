@@ -1,13 +1,20 @@
--- The lanes of whole bytes, and a texel by its four. Assumes nothing.
-use Rattle.std.proofs.Common.{◌≡◌, ℕ, ◌%◌, arith}
+-- The lanes of whole bytes, and the formats of lanes of one width. Assumes nothing.
+use Rattle.std.proofs.Common.{◌≡◌, refl, ℕ, ◌%◌, arith}
+use Rattle.formats.specs.Codes.{A1R5G5B5, A4R4G4B4}
+use Rattle.formats.specs.Table.{parts_of, lane_of}
 use Rattle.channels.specs.Expansion.{expanded}
-use Rattle.texels.specs.declared.Texel.{Texel}
+use Rattle.texels.specs.Texels.{argb_of, decoded_of, colour_of, missing_colour}
 use Rattle.texels.specs.Words.{expanded_eight}
 
 -- a byte is its own expansion
 pub expanded_byte : (v : ℕ) → expanded 8 (v % 256) ≡ v % 256
 expanded_byte v = expanded_eight (v % 256) (omega arith)
 
--- a texel is its four bytes
-pub four_bytes : {r r' g g' b b' a a' : ℕ} → r ≡ r' → g ≡ g' → b ≡ b' → a ≡ a' → ◌≡◌ {A = Texel} (record { r = r; g = g; b = b; a = a }) (record { r = r'; g = g'; b = b'; a = a' })
-four_bytes p q s t = λ i. record { r = p i; g = q i; b = s i; a = t i }
+-- the formats of alpha and three colours of one width, by their widths
+pub argb_1555 : (v : ℕ) → argb_of 1 5 v ≡ decoded_of A1R5G5B5 v
+unfolding argb_of decoded_of colour_of missing_colour lane_of parts_of
+argb_1555 v = refl
+
+pub argb_4444 : (v : ℕ) → argb_of 4 4 v ≡ decoded_of A4R4G4B4 v
+unfolding argb_of decoded_of colour_of missing_colour lane_of parts_of
+argb_4444 v = refl

@@ -1,7 +1,7 @@
 -- What the error bound of proofs/BoundsLaws rests on: widths of lanes, and how near a decoded byte lies to its exact value.
 -- Assumes nothing.
 use Rattle.std.specs.Prelude.{◌≡◌, refl, Bool, true, false, List, [], ◌∷◌, ℕ, ◌*◌, ◌-◌, ◌/◌, ◌^◌, ◌≤◌, ◌<◌, T, leb, eqb}
-use Rattle.std.proofs.Common.{subst, arith, mod-lt, mul-le-mul_left, pow_pos, pow_mono, leb→le, leb-true}
+use Rattle.std.proofs.Common.{subst, arith, mod-lt, mul-le-mul_left, pow_pos, leb→le, leb-true}
 use Rattle.std.proofs.Math.Pow.{le_ones}
 use Rattle.std.specs.Float.{binary32}
 use Rattle.std.specs.Float.Ieee.{of_bits}
@@ -19,7 +19,7 @@ use Rattle.channels.specs.Expansion.{expanded, expands, truncates}
 use Rattle.channels.specs.Nearest.{rounded_le}
 use Rattle.channels.specs.Luminance.{luminance_byte}
 use Rattle.channels.specs.Floats.{clamped, bottom_pos, top_le}
-use Rattle.channels.specs.Exact.{code_value, not_negative, rounded_near}
+use Rattle.channels.specs.Exact.{code_value, not_negative, ones_pos, rounded_near}
 use Rattle.channels.proofs.ExactLaws.{signed_le, expanded_near}
 use Rattle.texels.specs.declared.Texel.{Texel}
 use Rattle.texels.specs.Texels.{nearest_byte, code_byte, lane_byte, or_else, colour_of, missing_colour, byte_of, code_of, encoded_of, encoded_bytes, lane_value, Values, Stands}
@@ -94,9 +94,6 @@ lane_narrow f rgb c = found_narrow c (parts_of f) (rgb_narrow f rgb)
 -- ---- decoding: a byte, within 3/4 of the exact value
 pub code_lt : (low n w : ℕ) → code_at low n w < 2 ^ n
 code_lt low n w = mod-lt (w / 2 ^ low) (pow_pos n)
-
-ones_pos : (n : ℕ) → 1 ≤ n → 0 < 2 ^ n - 1
-ones_pos n h = omega (arith, pow_mono {i = 1} {j = n} h)
 
 -- k/d of full scale, and the byte nearest to it
 module _ (k d : ℕ) (D : 0 < d) where

@@ -54,6 +54,15 @@ decoded_of f w = record {
   a = lane_byte 255 (lane_of f alpha) w;
 }
 
+-- the texel of a word of alpha and three colours, by their widths: that of the lane table, where a format has these
+unfoldable pub argb_of : (alpha colour word : ℕ) → Texel
+argb_of n k w = record {
+  r = expanded k (code_at (2 * k) k w);
+  g = expanded k (code_at k k w);
+  b = expanded k (code_at 0 k w);
+  a = expanded n (code_at (3 * k) n w);
+}
+
 -- ---- encoding
 -- the byte that a texel has for a channel
 abbrev pub byte_of : Texel → Channel → ℕ

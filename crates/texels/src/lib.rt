@@ -1,16 +1,16 @@
 // A texel as a byte for each channel, from the word that it is in its format: the RGB formats, and those that convert into A8R8G8B8
 // alone. specs/Texels has what a word decodes to and a texel encodes to, from the lane table, and the exact values of its channels.
 // Ported from pixel_convert.rs of athei/mtld3d (an altered version, see NOTICE).
-#![tactic(auto, using(crate::proofs::Lanes::expanded_byte), unfolding(crate::specs::Texels::decoded_of, crate::specs::Texels::colour_of, crate::specs::Texels::missing_colour, formats::specs::Table::lane_of, formats::specs::Table::parts_of))]
+#![tactic(auto, using(crate::proofs::Lanes::expanded_byte), unfolding(crate::specs::Texels::argb_of, crate::specs::Texels::decoded_of, crate::specs::Texels::colour_of, crate::specs::Texels::missing_colour, formats::specs::Table::lane_of, formats::specs::Table::parts_of))]
 
-ghost use Rattle.std.specs.Prelude.{◌≡◌, ◌*◌, ◌≤◌, ◌%◌, length, take};
+ghost use Rattle.std.specs.Prelude.{◌≡◌, ◌+◌, ◌*◌, ◌≤◌, ◌<◌, ◌%◌, length, take};
 ghost use Rattle.words.specs.Little.{number};
 ghost use Rattle.formats.specs.Codes.{R8G8B8, A8R8G8B8, X8R8G8B8, R5G6B5, X1R5G5B5, A1R5G5B5, A4R4G4B4, A8, A2B10G10R10, A8B8G8R8, X8B8G8R8, G16R16, A2R10G10B10, A16B16G16R16, L8, A8L8, V8U8, Q8W8V8U8, L16, A32B32G32R32F};
 ghost use Rattle.formats.specs.Table.{bytes_of};
 ghost use Rattle.formats.specs.Formats.{rgb_code, code_source_code, lane_source_code};
 ghost use Rattle.channels.specs.Expansion.{expanded};
 ghost use Rattle.channels.specs.Nearest.{rounded};
-ghost use Rattle.texels.specs.Texels.{decoded_of};
+ghost use Rattle.texels.specs.Texels.{argb_of, decoded_of};
 
 use formats::{CodeSource, LaneSource, RgbFormat};
 
@@ -47,6 +47,7 @@ fn decode_r8g8b8(v: u32) -> Texel
     decode_a8r8g8b8(v).opaque()
 }
 
+// Not one of `decode_argb`: green has a bit more, and there is no alpha.
 fn decode_r5g6b5(v: u16) -> Texel
     ensures { result ≡ decoded_of R5G6B5 v }
 {
@@ -58,32 +59,24 @@ fn decode_r5g6b5(v: u16) -> Texel
     }
 }
 
-fn decode_a1r5g5b5(v: u16) -> Texel
-    ensures { result ≡ decoded_of A1R5G5B5 v }
+// Sixteen bits at most: alpha of ALPHA bits at the top, and three colours of COLOUR bits.
+fn decode_argb<const ALPHA: u32, const COLOUR: u32>(v: u16) -> Texel
+    requires widths { (0 < ALPHA) × (ALPHA ≤ 8) × (0 < COLOUR) × (COLOUR ≤ 8) }
+    requires fits { ALPHA + 3 * COLOUR ≤ 16 }
+    ensures { result ≡ argb_of ALPHA COLOUR v }
 {
     Texel {
-        r: channels::expand::<5>(v >> 10),
-        g: channels::expand::<5>(v >> 5),
-        b: channels::expand::<5>(v),
-        a: channels::expand::<1>(v >> 15),
+        r: channels::expand::<COLOUR>(v >> (2 * COLOUR)),
+        g: channels::expand::<COLOUR>(v >> COLOUR),
+        b: channels::expand::<COLOUR>(v),
+        a: channels::expand::<ALPHA>(v >> (3 * COLOUR)),
     }
 }
 
 fn decode_x1r5g5b5(v: u16) -> Texel
     ensures { result ≡ decoded_of X1R5G5B5 v }
 {
-    decode_a1r5g5b5(v).opaque()
-}
-
-fn decode_a4r4g4b4(v: u16) -> Texel
-    ensures { result ≡ decoded_of A4R4G4B4 v }
-{
-    Texel {
-        r: channels::expand::<4>(v >> 8),
-        g: channels::expand::<4>(v >> 4),
-        b: channels::expand::<4>(v),
-        a: channels::expand::<4>(v >> 12),
-    }
+    decode_argb::<1, 5>(v).opaque()
 }
 
 fn decode_a8(v: u8) -> Texel
@@ -174,10 +167,11 @@ fn decode_g16r16(v: u32) -> Texel
     }
 }
 
+#[tactic(auto, using(crate::specs::Words::sixteen), unfolding(crate::specs::Texels::decoded_of, crate::specs::Texels::colour_of, crate::specs::Texels::missing_colour, formats::specs::Table::lane_of, formats::specs::Table::parts_of))]
 fn decode_l16(v: u16) -> Texel
     ensures { result ≡ decoded_of L16 v }
 {
-    let l = nearest16(v as u32);
+    let l = channels::unorm16_to_unorm8(v);
     Texel {
         r: l,
         g: l,
@@ -189,9 +183,10 @@ fn decode_l16(v: u16) -> Texel
 fn decode_v8u8(v: u16) -> Texel
     ensures { result ≡ decoded_of V8U8 v }
 {
+    let [r, g] = v.to_le_bytes();
     Texel {
-        r: channels::snorm8_to_unorm8(v as u32),
-        g: channels::snorm8_to_unorm8((v >> 8) as u32),
+        r: channels::snorm8_to_unorm8(r as u32),
+        g: channels::snorm8_to_unorm8(g as u32),
         b: 0xff, // V8U8 has no blue
         a: 0xff,
     }
@@ -200,11 +195,12 @@ fn decode_v8u8(v: u16) -> Texel
 fn decode_q8w8v8u8(v: u32) -> Texel
     ensures { result ≡ decoded_of Q8W8V8U8 v }
 {
+    let [r, g, b, a] = v.to_le_bytes();
     Texel {
-        r: channels::snorm8_to_unorm8(v),
-        g: channels::snorm8_to_unorm8(v >> 8),
-        b: channels::snorm8_to_unorm8(v >> 16),
-        a: channels::snorm8_to_unorm8(v >> 24),
+        r: channels::snorm8_to_unorm8(r as u32),
+        g: channels::snorm8_to_unorm8(g as u32),
+        b: channels::snorm8_to_unorm8(b as u32),
+        a: channels::snorm8_to_unorm8(a as u32),
     }
 }
 
@@ -236,10 +232,14 @@ fn decode_a32b32g32r32f(px: &[u8]) -> Texel
     }
 }
 
-// A `match` and no table of functions, here and where texels are written: the compiler sees a loop's format through it.
+// A `match` here and where texels are written: a trait of formats would have an impl for each arm, and still this match, to choose one by
+// a format known at run time; in a table the decoders would need one type, and they take words of three.
+
+// That a texel's bytes are there each of these asks: the fact is of the length of what is lent, and since the format is known at run time
+// alone, no array type has its size.
 
 // The texel at the front of `px`, of an RGB format.
-#[tactic(auto, unfolding(formats::specs::Table::bytes_of, formats::specs::Table::parts_of))]
+#[tactic(auto, using(crate::proofs::Lanes::argb_1555, crate::proofs::Lanes::argb_4444), unfolding(formats::specs::Table::bytes_of, formats::specs::Table::parts_of))]
 fn decode_rgb(format: RgbFormat, px: &[u8]) -> Texel
     requires { bytes_of (rgb_code format) ≤ length px.now }
     ensures { result ≡ decoded_of (rgb_code format) (number (take (bytes_of (rgb_code format)) px.now)) }
@@ -250,8 +250,8 @@ fn decode_rgb(format: RgbFormat, px: &[u8]) -> Texel
         RgbFormat::X8R8G8B8 => decode_r8g8b8(words::le32(px)),
         RgbFormat::R5G6B5 => decode_r5g6b5(words::le16(px)),
         RgbFormat::X1R5G5B5 => decode_x1r5g5b5(words::le16(px)),
-        RgbFormat::A1R5G5B5 => decode_a1r5g5b5(words::le16(px)),
-        RgbFormat::A4R4G4B4 => decode_a4r4g4b4(words::le16(px)),
+        RgbFormat::A1R5G5B5 => decode_argb::<1, 5>(words::le16(px)),
+        RgbFormat::A4R4G4B4 => decode_argb::<4, 4>(words::le16(px)),
         RgbFormat::A8 => decode_a8(words::le8(px)),
         RgbFormat::A8B8G8R8 => decode_a8b8g8r8(words::le32(px)),
         RgbFormat::X8B8G8R8 => decode_x8b8g8r8(words::le32(px)),

@@ -1,11 +1,11 @@
 // What a viewer relies on, by the contracts of the exported calls alone: a depth picture comes back, and whatever is refused has left
 // every byte. specs/ has what follows of the definitions: demand 3, and the worked table. No part of the library.
-// The calls are made with numbers, one by one, as the C interface takes them.
+// The calls are made with numbers, one by one, and answer with numbers, as the C interface has them; here a layout and a region are one value each. The buffers
+// stay parameters with their pitches: some are lent to be read and some to be written.
 #![tactic(auto)]
 
 ghost use Rattle.std.specs.Prelude.{◌≡◌, ◌<◌, length};
 ghost use Rattle.depth_pixels.specs.Pixels.{KeepsAll};
-ghost use Rattle.depth_texture.specs.Layouts.{layout};
 ghost use Rattle.depth_texture.specs.Replies.{refusal_of};
 ghost use Rattle.depth_texture.specs.Promises.{first_refusal, SamePixels};
 
@@ -15,10 +15,7 @@ use depth_texture::PlaneLayout;
 // Unpacks a packed picture and packs the untouched planes into another buffer: accepted, that holds the same pixels.
 fn unpack_and_pack(
     format: u32,
-    width: usize,
-    height: usize,
-    depth_pitch: usize,
-    stencil_pitch: usize,
+    planes: PlaneLayout,
     packed: &[u8],
     packed_pitch: usize,
     depth: &mut [u8],
@@ -26,15 +23,15 @@ fn unpack_and_pack(
     out: &mut [u8],
     out_pitch: usize,
 ) -> u32
-    ensures reply { result ≡ first_refusal (refusal_of format (layout width height depth_pitch stencil_pitch) (length packed.now) packed_pitch (length depth.old) (length stencil.old)) (refusal_of format (layout width height depth_pitch stencil_pitch) (length out.old) out_pitch (length depth.old) (length stencil.old)) }
-    ensures restores { result ≡ 0 → KeepsAll format → SamePixels format (layout width height depth_pitch stencil_pitch) packed.now packed_pitch out.new out_pitch }
+    ensures reply { result ≡ first_refusal (refusal_of format planes (length packed.now) packed_pitch (length depth.old) (length stencil.old)) (refusal_of format planes (length out.old) out_pitch (length depth.old) (length stencil.old)) }
+    ensures restores { result ≡ 0 → KeepsAll format → SamePixels format planes packed.now packed_pitch out.new out_pitch }
 {
     let unpacked = wentuqis::wentuqis_unpack(
         format,
-        width,
-        height,
-        depth_pitch,
-        stencil_pitch,
+        planes.width,
+        planes.height,
+        planes.depth_pitch,
+        planes.stencil_pitch,
         packed,
         packed_pitch,
         depth,
@@ -45,10 +42,10 @@ fn unpack_and_pack(
     }
     wentuqis::wentuqis_pack(
         format,
-        width,
-        height,
-        depth_pitch,
-        stencil_pitch,
+        planes.width,
+        planes.height,
+        planes.depth_pitch,
+        planes.stencil_pitch,
         depth,
         stencil,
         out,
@@ -66,6 +63,7 @@ struct Replies {
 
 // Converts a region, unpacks a picture and packs planes, each with buffers of its own: whatever is refused has left every byte
 // that it was lent.
+#[tactic(auto, using(depth_texture::proofs::RoundTrip::unpacked_refused, depth_texture::proofs::RoundTrip::packed_refused, crate::specs::Viewer::conversion_refused))]
 fn convert_unpack_pack(
     dst: &mut [u8],
     dst_format: u32,

@@ -1,6 +1,9 @@
 // The static library that Rust and C link: the calls of crates/wentuqis under the same names and with the same clauses, which say
 // what each refuses. Nothing is asked of a caller that Rattle can see.
-// Each call stands here and in crates/wentuqis, since the C interface needs the exported names.
+// Each call stands here and in crates/wentuqis, since the C interface needs the exported names, and `viewer` and `replay` call a library:
+// a static one is no crate that others can depend on.
+// Formats are codes, a region, a set and a layout are numbers one by one, and a fill's bytes and their number are two, since the C
+// interface hands them over so.
 #![tactic(auto)]
 
 ghost use Rattle.std.specs.Prelude.{◌≡◌, [], ◌∷◌, ◌≤◌, ◌<◌, length, get_or};

@@ -40,16 +40,20 @@ between_at t low high h k l u =
     subst (λ i. T (t i)) e (below_at (λ j. t (low + j)) (high - low) h (k - low) (omega arith))
 
 -- the test passes at every entry of a table and its place, counted from i
-abbrev pub every_entry : (ℕ → ℕ → Bool) → ℕ → List ℕ → Bool
+abbrev pub every_entry : {A : Type 0} → (ℕ → A → Bool) → ℕ → List A → Bool
 every_entry t i [] = true
 every_entry t i (x ∷ xs) = both (t i x) (every_entry t (suc i) xs)
 
-entry_from : (t : ℕ → ℕ → Bool) (xs : List ℕ) (i : ℕ) → T (every_entry t i xs) → (k : ℕ) → k < length xs → T (t (i + k) (get_or xs k 0))
-entry_from t [] i h k l = absurd (not-suc-le-zero l)
-entry_from t (x ∷ xs) i h zero l = subst (λ m. T (t m x)) (sym (add-zero i)) (both_left (t i x) (every_entry t (suc i) xs) h)
-entry_from t (x ∷ xs) i h (suc k) l =
-    subst (λ m. T (t m (get_or xs k 0))) (suc-add i k ∙ sym (add-suc i k))
-    (entry_from t xs (suc i) (both_right (t i x) (every_entry t (suc i) xs) h) k (le_of_suc-le-suc l))
+entry_from : {A : Type 0} (t : ℕ → A → Bool) (xs : List A) (d : A) (i : ℕ) → T (every_entry t i xs) → (k : ℕ) → k < length xs → T (t (i + k) (get_or xs k d))
+entry_from t [] d i h k l = absurd (not-suc-le-zero l)
+entry_from t (x ∷ xs) d i h zero l = subst (λ m. T (t m x)) (sym (add-zero i)) (both_left (t i x) (every_entry t (suc i) xs) h)
+entry_from t (x ∷ xs) d i h (suc k) l =
+    subst (λ m. T (t m (get_or xs k d))) (suc-add i k ∙ sym (add-suc i k))
+    (entry_from t xs d (suc i) (both_right (t i x) (every_entry t (suc i) xs) h) k (le_of_suc-le-suc l))
 
+pub entry_of : {A : Type 0} (t : ℕ → A → Bool) (xs : List A) (d : A) → T (every_entry t 0 xs) → (k : ℕ) → k < length xs → T (t k (get_or xs k d))
+entry_of t xs d h k l = subst (λ m. T (t m (get_or xs k d))) (zero-add k) (entry_from t xs d 0 h k l)
+
+-- of numbers
 pub entry_at : (t : ℕ → ℕ → Bool) (xs : List ℕ) → T (every_entry t 0 xs) → (k : ℕ) → k < length xs → T (t k (get_or xs k 0))
-entry_at t xs h k l = subst (λ m. T (t m (get_or xs k 0))) (zero-add k) (entry_from t xs 0 h k l)
+entry_at t xs h k l = entry_of t xs 0 h k l

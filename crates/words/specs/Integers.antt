@@ -1,7 +1,7 @@
 -- An integer by its two parts, so that `omega`, which reads only ℕ, can reason of it: z is `up z` less `dn z`, and one of the two is 0.
 -- Each operation has a law that is linear in the parts. Assumes nothing.
 use Rattle.std.specs.Prelude.{◌≡◌, refl, Bool, true, false, cond, ◌⊎◌, ℕ, zero, suc, ◌+◌, ◌*◌, ◌-◌, ◌/◌, ◌≤◌, ◌<◌, min, ltb, ℤ, pos, negsuc, neg_ℤ, ◌+ℤ◌, ◌-ℤ◌, ◌*ℤ◌}
-use Rattle.std.proofs.Common.{◌∙◌, inl, inr, ⊎_elim, arith, zero-mul, suc-mul, mul-le-mul, div-mul-le_self, ltb-true, ltb-false}
+use Rattle.std.proofs.Common.{◌∙◌, ap, inl, inr, ⊎_elim, arith, add-mul, zero-mul, suc-mul, mul-le-mul, div-mul-le_self, ltb-true, ltb-false}
 use Rattle.std.proofs.Math.Nat.{lt-div-mul-add}
 use Rattle.std.proofs.Math.IntN.{sub_ℕ}
 use Rattle.std.specs.Int.Signed.{mag}
@@ -25,6 +25,12 @@ up (negsuc n) = 0
 unfoldable pub dn : ℤ → ℕ
 dn (pos n) = 0
 dn (negsuc n) = suc n
+
+-- what is clamped to a byte is one
+pub clamp_byte : (z : ℤ) → clamp_to 255 z < 256
+unfolding clamp_to
+clamp_byte (pos n) = omega arith
+clamp_byte (negsuc n) = omega arith
 
 pub up_pos : (n : ℕ) → up (pos n) ≡ n
 unfolding up
@@ -105,3 +111,11 @@ mag_below (negsuc n) k h i = i
 -- a bound on a product
 pub times_small : (z : ℤ) (k a b g : ℕ) → up z ≤ a → dn z ≤ b → k ≤ g → (up (z *ℤ pos k) ≤ a * g) × (dn (z *ℤ pos k) ≤ b * g)
 times_small z k a b g ha hb hg = (omega (arith, times_up z k, mul-le-mul ha hg), omega (arith, times_dn z k, mul-le-mul hb hg))
+
+-- a difference of two numbers times g
+pub scaled_difference : (a b g : ℕ) → up ((pos a -ℤ pos b) *ℤ pos g) + b * g ≡ dn ((pos a -ℤ pos b) *ℤ pos g) + a * g
+scaled_difference a b g =
+    let i = pos a -ℤ pos b in
+    let e : up i + b ≡ dn i + a = omega (arith, difference (pos a) (pos b), up_pos a, dn_pos a, up_pos b, dn_pos b) in
+    let m : (up i + b) * g ≡ (dn i + a) * g = ap (λ n. n * g) e in
+    omega (arith, m, add-mul (up i) b g, add-mul (dn i) a g, times_up i g, times_dn i g)

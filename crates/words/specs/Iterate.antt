@@ -2,7 +2,8 @@
 -- Assumes nothing.
 use Rattle.std.specs.Prelude.{◌≡◌, refl, Bool, true, false, ◌&&◌, ℕ, zero, suc, ◌+◌, ◌<◌}
 use Rattle.std.proofs.Common.{ap, ap₂, ◌∙◌, ⊎_elim, arith, not-suc-le-zero, add-suc, add-zero, add-one}
-use Rattle.words.specs.Tests.{and_left, and_right, and_out, lt_or_eq}
+use Rattle.std.proofs.lemmas.Bool.{and_parts, and_right}
+use Rattle.words.specs.Tests.{lt_or_eq}
 
 -- from a, step 0, then step 1, up to step n - 1
 unfoldable pub iterate : {A : Type 0} → (ℕ → A → A) → ℕ → A → A
@@ -53,8 +54,8 @@ pub all_at : (p : ℕ → Bool) (n : ℕ) → all p n ≡ true → (k : ℕ) →
 unfolding all
 all_at p zero h k lt = absurd (not-suc-le-zero lt)
 all_at p (suc n) h k lt =
-    ⊎_elim (λ less. all_at p n (and_left (all p n) (p n) h) k less)
-    (λ same. rw same (and_right (all p n) (p n) h))
+    ⊎_elim (λ less. all_at p n (and_parts (all p n) (p n) h).0 k less)
+    (λ same. rw same (and_parts (all p n) (p n) h).1)
     (lt_or_eq k n lt)
 
 pub all_false : (p : ℕ → Bool) (n k : ℕ) → k < n → p k ≡ false → all p n ≡ false
@@ -62,7 +63,7 @@ unfolding all
 all_false p zero k lt h = absurd (not-suc-le-zero lt)
 all_false p (suc n) k lt h =
     ⊎_elim (λ less. rw (all_false p n k less h) refl)
-    (λ same. and_out (all p n) (p n) (rw same at h))
+    (λ same. and_right (all p n) (p n) (rw same at h))
     (lt_or_eq k n lt)
 
 -- tests that agree below n

@@ -1,7 +1,8 @@
 -- Bytes as a little-endian number, and a number's bytes: each undoes the other, and both may be taken in two parts.
 -- Assumes nothing.
-use Rattle.std.specs.Prelude.{◌≡◌, refl, List, [], ◌∷◌, ◌++◌, ℕ, zero, suc, ◌+◌, ◌*◌, ◌/◌, ◌%◌, ◌^◌, ◌≤◌, ◌<◌, length, take, drop, get_or}
+use Rattle.std.specs.Prelude.{◌≡◌, refl, List, [], ◌∷◌, ◌++◌, ℕ, zero, suc, ◌+◌, ◌-◌, ◌*◌, ◌/◌, ◌%◌, ◌^◌, ◌≤◌, ◌<◌, length, take, drop, get_or}
 use Rattle.std.proofs.Common.{sym, ap, ap₂, ◌∙◌, subst, arith, suc-mul, suc-add, zero-add, add-zero, add_comm, mul_assoc, mul_comm, div-one, div-add-mod', add-one, pow-add, shr_lt, shr-shr, take-add, length-take-le, drop-drop, get_or-drop}
+use Rattle.std.proofs.lemmas.List.{take_rest}
 use Rattle.std.proofs.Math.Nat.{zero-div}
 use Rattle.std.proofs.Math.Arith.{digits_div, digits_mod, digits_lt}
 use Rattle.std.proofs.Math.Pow.{field, mod-mod-pow}
@@ -45,6 +46,10 @@ pub small_drop : (n : ℕ) (l : List ℕ) → Small l → Small (drop n l)
 small_drop zero l h = h
 small_drop (suc n) [] h = tt
 small_drop (suc n) (b ∷ bs) h = small_drop n bs h.1
+
+-- the first n bytes from a on are those of the part from a on
+pub number_rest : (n a : ℕ) (l : List ℕ) → number (take n (take (length l - a) (drop a l))) ≡ number (take n (drop a l))
+number_rest n a l = ap (λ m. number (take n m)) (take_rest l a)
 
 -- ---- there and back
 

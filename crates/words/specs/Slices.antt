@@ -1,13 +1,9 @@
--- A part of a slice that is read, and one that is lent, written at its front, and comes back; and what `sets` keeps and changes.
+-- A part of a slice that is lent, written at its front, and comes back; and what `sets` keeps and changes.
 -- Assumes nothing.
 use Rattle.std.specs.Prelude.{◌≡◌, refl, List, [], ◌∷◌, ◌++◌, ◌⊎◌, ℕ, suc, ◌+◌, ◌-◌, ◌≤◌, ◌<◌, length, get_or, take, drop, set}
 use Rattle.std.proofs.Common.{sym, ap, ◌∙◌, append_assoc, append-nil, ⊎_elim, arith, zero-add, add-zero, add-sub_of_le, length-drop, drop_of_length-le, take_all, take_at, drop_at, drop-drop, get_or-take, get_or-drop, get_or-set_other, drop-set-lt, length-take-le}
 use Rattle.std.proofs.lemmas.List.Edits.{sets, sets-eq}
 use Rattle.std.proofs.lemmas.List.{take-set-le, drop-set-add}
-
--- the part from a on, read
-pub part_read : (l : List ℕ) (a : ℕ) → take (length l - a) (drop a l) ≡ drop a l
-part_read l a = take_all (length l - a) (drop a l) (omega (arith, length-drop a l))
 
 -- the part from a on, lent, with vs written at its front
 pub part_back : (l : List ℕ) (a k : ℕ) (vs : List ℕ) → k ≡ length l - a → a + length vs ≤ length l

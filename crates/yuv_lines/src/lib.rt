@@ -27,7 +27,8 @@ pub struct Line {
     pub base: u32,
 }
 
-// The line of each part.
+// The line of each part. `yuv_parts::Parts` has the same five fields and stays a struct of its own: no function makes the one out of the other
+// in one way for all five (luma takes a luma, two take U and two V), so that a generic struct of five would have no `map` to serve.
 #[derive(Clone, Copy)]
 pub struct Lines {
     pub luma: Line,
@@ -54,7 +55,7 @@ pub struct Pair {
 }
 
 impl Line {
-    // The line of luma.
+    // The line of luma. Two, as `stretch_rect::scaled_luma` and `scaled_chroma` are (line there).
     #[tactic(auto, using(yuv_parts::specs::Lines::luma_base_small), unfolding(yuv_parts::specs::Lines::luma_base_of))]
     fn luma(set: LegalSet) -> Line
         ensures is { result ≡ luma_of set.numbers.luma_offset set.numbers.luma_gain }
@@ -88,7 +89,7 @@ impl Line {
     }
 }
 
-// The lines of a legal set.
+// The lines of a legal set. No From, which keeps what it takes: bases are rounded.
 #[tactic(auto, using(crate::specs::Pairs::set_lines), unfolding(crate::specs::Pairs::lines_of))]
 pub fn lines_of(set: LegalSet) -> SizedLines
     ensures is { result.lines ≡ lines_of set.numbers }

@@ -1,21 +1,18 @@
 -- Pairs further on, and how the samples of a pair lie to one another, by the numbers alone. Assumes nothing.
-use Rattle.std.specs.Prelude.{◌≡◌, true, false, ℕ, ◌+◌, ◌*◌, ◌%◌, ◌≤◌, eqb}
-use Rattle.std.proofs.Common.{refl, ap, arith, add-mul, ne_eqb}
+use Rattle.std.specs.Prelude.{◌≡◌, true, ℕ, ◌+◌, ◌*◌, ◌%◌, ◌≤◌}
+use Rattle.std.proofs.Common.{refl, ap, arith, add-mul}
 use Rattle.formats.specs.Classes.{is_packed_yuv, is_yuv}
 use Rattle.planar_yuv.specs.Offsets.{u_offset_at, v_offset_at, nv12_v}
 use Rattle.yuv_pairs.specs.Gathered.{luma_step, chroma_step, Arranged, PairsIn, yuy2_steps, uyvy_steps}
-use Rattle.yuv_pair_rows.specs.Samples.{luma_on, u_on, v_on}
+use Rattle.yuv_pair_rows.specs.Samples.{luma_on, u_on, v_on, even_here}
 
 module _ (f pitch slice_pitch z y x : ℕ) (yuv : is_yuv f ≡ true) (even : x % 2 ≡ 0) where
-  even_here : eqb (x % 2) 1 ≡ false
-  even_here = ne_eqb (x % 2) 1 (λ e. omega (arith, even, e))
-
   -- how the three lie to one another
   pub arranged : Arranged f (luma_on f pitch slice_pitch z y x) (u_on f pitch slice_pitch z y x) (v_on f pitch slice_pitch z y x)
   unfolding luma_on u_on v_on is_packed_yuv v_offset_at u_offset_at nv12_v
   arranged = record {
-    yuy2 = λ e. rw (e, even_here) (omega arith, omega arith);
-    uyvy = λ e. rw (e, even_here) (omega arith, omega arith);
+    yuy2 = λ e. rw (e, even_here f pitch slice_pitch z y x yuv even) (omega arith, omega arith);
+    uyvy = λ e. rw (e, even_here f pitch slice_pitch z y x yuv even) (omega arith, omega arith);
     nv12 = λ e. rw e refl;
   }
 

@@ -1,8 +1,8 @@
 -- The words of the texels of a run of pairs, block by block and texel by texel. Assumes nothing.
-use Rattle.std.specs.Prelude.{◌≡◌, true, List, ℤ, pos, negsuc, length, get_or, ℕ, ◌+◌, ◌*◌, ◌/◌, ◌%◌, ◌≤◌, ◌<◌}
+use Rattle.std.specs.Prelude.{◌≡◌, true, List, length, get_or, ℕ, ◌+◌, ◌*◌, ◌/◌, ◌%◌, ◌≤◌, ◌<◌}
 use Rattle.std.proofs.Common.{sym, ap, ap₂, subst, ◌∙◌, ⊎_elim, add_assoc, add-mul, zero-mul, one-mul, arith}
 use Rattle.std.proofs.Math.Seq.{sets}
-use Rattle.words.specs.Integers.{clamp_to}
+use Rattle.words.specs.Integers.{clamp_byte}
 use Rattle.words.specs.Tests.{lt_or_eq}
 use Rattle.words.specs.Iterate.{iterate, iterate_zero, iterate_add, iterate_same}
 use Rattle.formats.specs.Codes.{A8R8G8B8}
@@ -111,11 +111,6 @@ written_more {l} {src} {first} {d} {to} {was} {done} {at} {dst} {off} {j} {m} {s
     }
 
 -- ---- a word is the texel of its sample
-clamp_byte : (z : ℤ) → clamp_to 255 z < 256
-unfolding clamp_to
-clamp_byte (pos n) = omega arith
-clamp_byte (negsuc n) = omega arith
-
 opaque_bytes : (p : Rgb) → p.r < 256 → p.g < 256 → p.b < 256 → (c : Channel) → byte_of (opaque_of p) c < 256
 opaque_bytes p x y z red = x
 opaque_bytes p x y z green = y

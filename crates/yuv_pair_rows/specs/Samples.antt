@@ -1,8 +1,8 @@
 -- Where the samples of a YUV texel lie, column by column, and that the pairs of a row lie in steps. Assumes nothing.
 use Rattle.std.specs.Prelude.{◌≡◌, Bool, ◌&&◌, List, [], ◌∷◌, ℕ, ◌+◌, ◌*◌, ◌/◌, ◌%◌, ◌<◌, ltb, length, take, drop, refl, true, false, eqb, get_or}
 use Rattle.std.proofs.Common.{sym, ap, subst, ◌∙◌, ltb-true, eq-eqb, ne_eqb, add-mul, arith, get_or-take, get_or-drop}
-use Rattle.std.proofs.lemmas.Bool.{false≢true}
-use Rattle.words.specs.Tests.{pick, and_left, and_right}
+use Rattle.std.proofs.lemmas.Bool.{false≢true, and_parts}
+use Rattle.words.specs.Tests.{pick}
 use Rattle.formats.specs.Codes.{YUY2, YV12}
 use Rattle.formats.specs.Classes.{is_packed_yuv, is_planar_yuv, is_yuv}
 use Rattle.planar_yuv.specs.Rules.{allowed}
@@ -68,13 +68,13 @@ planar_in len f pitch rows x y h = go (allowed f pitch rows) (contains pitch row
 
     go : (a c : Bool) → allowed f pitch rows ≡ a → contains pitch rows x y ≡ c → places_in len (pick a (pick c (offsets (lo ∷ uo ∷ vo ∷ [])) absent) absent) ≡ true → PlanarIn len f pitch rows x y
     go true true e k t =
-        let rest = and_right (ltb lo len) (ltb uo len && (ltb vo len && true)) t in
+        let rest = (and_parts (ltb lo len) (ltb uo len && (ltb vo len && true)) t).1 in
         record {
           has_layout = e;
           has_texel = k;
-          luma_below = ltb-true lo len (and_left (ltb lo len) (ltb uo len && (ltb vo len && true)) t);
-          u_below = ltb-true uo len (and_left (ltb uo len) (ltb vo len && true) rest);
-          v_below = ltb-true vo len (and_left (ltb vo len) true (and_right (ltb uo len) (ltb vo len && true) rest));
+          luma_below = ltb-true lo len (and_parts (ltb lo len) (ltb uo len && (ltb vo len && true)) t).0;
+          u_below = ltb-true uo len (and_parts (ltb uo len) (ltb vo len && true) rest).0;
+          v_below = ltb-true vo len (and_parts (ltb vo len) true (and_parts (ltb uo len) (ltb vo len && true) rest).1).0;
         }
     go true false e k t = absurd (false≢true t)
     go false c e k t = absurd (false≢true t)
@@ -114,7 +114,7 @@ module _ (f pitch slice_pitch z y x : ℕ) (yuv : is_yuv f ≡ true) (even : x %
   odds : (k : ℕ) → (eqb ((x + 2 * k) % 2) 1 ≡ false) × (eqb ((x + (2 * k + 1)) % 2) 1 ≡ true)
   odds k = (ne_eqb ((x + 2 * k) % 2) 1 (λ e. omega (arith, even, e)), eq-eqb ((x + (2 * k + 1)) % 2) 1 (omega (arith, even)))
 
-  even_here : eqb (x % 2) 1 ≡ false
+  pub even_here : eqb (x % 2) 1 ≡ false
   even_here = ne_eqb (x % 2) 1 (λ e. omega (arith, even, e))
 
   -- a macropixel further on

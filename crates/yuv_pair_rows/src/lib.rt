@@ -33,25 +33,24 @@ fn packed_places(format: PackedYuv, macropixel: usize) -> PairPlaces
 }
 
 // Those of the texel of a planar frame.
-fn planar_places(format: PlanarYuv, texel: PlanarTexel) -> PairPlaces
-    ensures { PlanarPair result (planar_yuv_code format) texel.layout.pitch texel.layout.luma_rows texel.y texel.x }
+#[tactic(auto, using(crate::proofs::Places::yv12_pair, crate::proofs::Places::nv12_pair))]
+fn planar_places(texel: PlanarTexel) -> PairPlaces
+    ensures { PlanarPair result (planar_yuv_code texel.format) texel.layout.pitch texel.layout.luma_rows texel.y texel.x }
 {
     let luma = texel.luma_offset();
-    match format {
+    let u = texel.u_offset();
+    match texel.format {
         PlanarYuv::YV12 => PairPlaces::Yv12 {
             luma,
-            u: texel.yv12_u_offset(),
-            v: texel.yv12_v_offset(),
+            u,
+            v: texel.v_offset(),
         },
-        PlanarYuv::NV12 => PairPlaces::Nv12 {
-            luma,
-            chroma: texel.nv12_uv_offset(),
-        },
+        PlanarYuv::NV12 => PairPlaces::Nv12 { luma, chroma: u },
     }
 }
 
 // Those of the pair whose first texel is in an even column.
-#[tactic(auto, using(yuv_texels::proofs::Fetched::packed_in))]
+#[tactic(auto, using(yuv_texels::proofs::Fetched::packed_in, places::proofs::ByKind::texel_laid))]
 fn pair_places(src: &[u8], format: YuvFormat, pitches: Pitches, at: Spot) -> PairPlaces
     requires { (at.x % 2 ≡ 0) × (places_in (length src.now) (places_at (yuv_code format) pitches.row pitches.slice at.z at.y at.x) ≡ true) }
     ensures { PairAt result (yuv_code format) pitches.row pitches.slice at.z at.y at.x }
@@ -61,18 +60,26 @@ fn pair_places(src: &[u8], format: YuvFormat, pitches: Pitches, at: Spot) -> Pai
             packed_places(packed, pitches.start_of(4, Spot { x: at.x / 2, ..at }))
         }
         YuvFormat::Planar(planar) => {
-            let layout = places::source_layout(format, pitches);
+            let layout = places::layout_in_slice(planar, pitches).unwrap();
             let texel = PlanarTexel {
+                format: planar,
                 layout,
                 x: at.x,
                 y: at.y,
             };
-            planar_places(planar, texel)
+            planar_places(texel)
         }
     }
 }
 
-// The texels of so many pairs, from byte `first_to` of the destination on, block by block. Every offset is carried.
+// What is written and what is read are lent buffers, each with what it holds: `dst, dst_format` and `src, source` stay two parameters each in
+// the next functions, since a struct with a buffer that is written would be taken apart in each of them. That the pairs lie within the
+// source (`PlacesIn`), and a row within both (`RowFits`), speaks of their lengths and is asked for the same reason. Pairs are counted: they
+// lie a step apart, and the buffers go on behind them.
+
+// The texels of so many pairs, from byte `first_to` of the destination on, block by block. Every offset is carried, as a row of texels has
+// it. No iterator cuts both sides: a block's pairs lie in one to three places of the source, and of what `chunks_mut` lends of the
+// destination a proof learns nothing once it is written.
 #[tactic(auto, using(crate::specs::PairWords::written_none))]
 fn write_pairs(
     dst: &mut [u8],
@@ -117,13 +124,13 @@ fn pair_run(
     }
     let spot = at.source_spot(first);
     let places = pair_places(src, source.format, at.region.source_pitches(), spot);
-    let rows = at.region.destination_pitches();
-    let to = rows.start_of(dst_format.bytes_per_texel(), at.destination_spot(first));
+    let to = yuv_texels::run_start(dst_format, at, first);
     let lines = yuv_lines::lines_of(source.set);
     write_pairs(dst, dst_format, to, src, places, lines, pairs);
 }
 
 // A row: the texel before the first whole pair, the pairs, and the texel behind the last.
+#[tactic(auto, using(yuv_texels::specs::Runs::runs_row))]
 pub fn yuv_row(dst: &mut [u8], dst_format: RgbFormat, src: &[u8], source: YuvSource, at: RegionRow)
     requires { RowFits (length src.now) (length dst.old) (yuv_code source.format) (rgb_code dst_format) at.region at.z at.row }
     ensures { dst.new ≡ row_written source.set.numbers src.now (yuv_code source.format) (rgb_code dst_format) at.region at.z at.row dst.old }

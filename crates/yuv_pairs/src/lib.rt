@@ -1,5 +1,5 @@
 // Pairs of YUV texels that share their chroma, read into a block of A8R8G8B8 words. Their samples are gathered first: each word of 16 bits
-// has two lumas, or a U and a V. Offsets are carried: each loop adds its step. specs/Gathered has what it is to gather and to read.
+// has two lumas, or a U and a V. specs/Gathered has what it is to gather and to read.
 // Ported from pixel_convert.rs of athei/mtld3d (an altered version, see NOTICE).
 #![tactic(auto)]
 
@@ -54,9 +54,14 @@ impl PairPlaces {
 
 // ---- gathering
 
-// Three loops stay: they differ in the step and in how a word is made, and one generic loop with three closures takes as many lines.
+// Three loops stay: they differ in the step and in how a word is made, and one generic loop with three closures takes as many lines. One
+// loop that puts two single bytes together, by a step, would do for all, but took 0.76 ns a word of macropixels for 0.38: 0.7 to 1.1
+// memcpy more for each texel, where the bar is 5 and 3.4 to 4.3 were taken (docs/changes/05-lookup-tables.md).
+// They go over their words by number: of what a `zip` of `iter_mut` with the parts of the source wrote no proof learns anything.
 
-// Bytes p and p + 2 of a macropixel's word.
+// Bytes p and p + 2 of a macropixel's word. p is no number for a kind: it is the place of a byte in the macropixel, and gather_packed
+// promises the bytes from `from + p` on.
+#[tactic(auto, using(crate::proofs::Bytes::shifted), unfolding(crate::specs::Gathered::two_bytes))]
 fn packed_word(m: u32, p: u32) -> u16
     requires { p ≤ 1 }
     ensures { result ≡ two_bytes m p }
@@ -70,10 +75,8 @@ fn gather_packed(out: &mut [u16], src: &[u8], from: usize, p: u32)
     requires { (p ≤ 1) × TexelsIn (length src.now) from 4 4 (length out.old) }
     ensures { Gathered src.now (from + p) (from + p + 2) 4 (length out.old) out.new }
 {
-    let mut at = from;
-    for word in out {
-        *word = packed_word(words::le32(&src[at..]), p);
-        at += 4;
+    for (i, word) in out.iter_mut().enumerate() {
+        *word = packed_word(words::le32(&src[from + 4 * i..]), p);
     }
 }
 
@@ -82,29 +85,27 @@ fn gather_words(out: &mut [u16], src: &[u8], from: usize)
     requires { TexelsIn (length src.now) from 2 2 (length out.old) }
     ensures { Gathered src.now from (from + 1) 2 (length out.old) out.new }
 {
-    let mut at = from;
-    for word in out {
-        *word = words::le16(&src[at..]);
-        at += 2;
+    for (i, word) in out.iter_mut().enumerate() {
+        *word = words::le16(&src[from + 2 * i..]);
     }
 }
 
 // A byte of one plane and one of another each.
-#[tactic(auto, using(crate::specs::Gathered::gather_next, blocks::specs::Blocks::once_more))]
+#[tactic(auto, using(crate::specs::Gathered::gather_next))]
 fn gather_planes(out: &mut [u16], src: &[u8], first: usize, second: usize)
     requires { TexelsIn (length src.now) first 1 1 (length out.old) × TexelsIn (length src.now) second 1 1 (length out.old) }
     ensures { Gathered src.now first second 1 (length out.old) out.new }
 {
-    let mut a = first;
-    let mut b = second;
-    for word in out {
-        *word = src[a] as u16 + src[b] as u16 * 256;
-        a += 1;
-        b += 1;
+    for (i, word) in out.iter_mut().enumerate() {
+        *word = u16::from_le_bytes([src[first + i], src[second + i]]);
     }
 }
 
-// Lumas and chromas change places between the two packed formats, so neither of these is the other with another constant.
+// Lumas and chromas change places between the two packed formats, so neither of these is the other with another constant. They match, since
+// each variant holds places of its own, which another gather takes.
+
+// That the samples lie within the source (`PlacesIn`, and `TexelsIn` of a gather) is asked of the caller: it speaks of the length of what is lent, and of as many pairs
+// as there is room for in what is written. A type that held the source and its places would leave the second half to be asked.
 
 // The lumas of pairs, the first of which lies at `at`.
 #[tactic(auto, using(crate::proofs::Variants::yuy2_lumas, crate::proofs::Variants::uyvy_lumas, crate::proofs::Variants::yv12_lumas, crate::proofs::Variants::nv12_lumas))]
@@ -136,19 +137,22 @@ fn gather_chromas(chromas: &mut [u16], src: &[u8], at: PairPlaces)
 
 // ---- colours
 
-// The words of as many pairs as there are words of lumas.
+// The words of as many pairs as there are words of lumas. They are set by their numbers: of what is written through `chunks_exact_mut` no
+// proof learns anything. Lumas and chromas are two arrays, since a word of either is gathered by the same loops: in one array of samples
+// each of these would stand twice, once for two lumas and once for U and V.
+#[tactic(auto, using(crate::specs::Gathered::colour_more, crate::proofs::Bytes::low, crate::proofs::Bytes::high), unfolding(yuv_lines::specs::Pairs::pair_on, crate::specs::Gathered::word_on))]
 fn colour_pairs(block: &mut [u32], lumas: &[u16], chromas: &[u16], lines: SizedLines)
     requires { (2 * length lumas.now ≤ length block.old) × (length lumas.now ≤ length chromas.now) }
     ensures { Coloured lines.lines lumas.now chromas.now (length lumas.now) block.old block.new }
 {
     for i in 0..lumas.len() {
-        let luma = lumas[i];
-        let chroma = chromas[i];
+        let [first, second] = lumas[i].to_le_bytes();
+        let [u, v] = chromas[i].to_le_bytes();
         let samples = Samples {
-            first: (luma % 256) as u8,
-            second: (luma / 256) as u8,
-            u: (chroma % 256) as u8,
-            v: (chroma / 256) as u8,
+            first,
+            second,
+            u,
+            v,
         };
         let pair = yuv_lines::pair_words(lines, samples);
         block[2 * i] = pair.first;

@@ -2,8 +2,8 @@
 -- 32 bits have room for it.
 -- Assumes nothing.
 use Rattle.std.specs.Prelude.{◌≡◌, ℕ, ◌+◌, ◌*◌, ◌/◌, ◌≤◌, ◌<◌, ℤ, pos, negsuc, ◌-ℤ◌, ◌*ℤ◌}
-use Rattle.std.proofs.Common.{sym, ap, ◌∙◌, ⊎_elim, arith, add-mul, mul_assoc, mul_comm, mul-le-mul, lit<}
-use Rattle.words.specs.Integers.{floor_div, up, dn, up_pos, dn_pos, one_zero, difference, times_up, times_dn, floor_low, floor_high}
+use Rattle.std.proofs.Common.{sym, ap, ◌∙◌, ⊎_elim, arith, mul_assoc, mul_comm, mul-le-mul, lit<}
+use Rattle.words.specs.Integers.{floor_div, up, dn, up_pos, dn_pos, one_zero, difference, times_up, times_dn, floor_low, floor_high, scaled_difference}
 use Rattle.std.proofs.lemmas.Int.{ints}
 use Rattle.stretch_rect.specs.Yuv.{luma_part, chroma_part, luma_exact, chroma_exact}
 use Rattle.yuv_parts.specs.Parts.{PartSize}
@@ -38,14 +38,6 @@ floor_line : (z : ℤ) (p s b : ℕ) → up z + s ≡ dn z + p * 65536 → s ≤
 floor_line z p s b e l h =
     same_difference (floor_div z 65536) (pos p -ℤ pos b)
     (omega (arith, e, l, h, floor_low z 65536 (lit< tt), floor_high z 65536 (lit< tt), difference (pos p) (pos b), up_pos p, dn_pos p, up_pos b, dn_pos b))
-
--- a difference times g
-scaled_difference : (a b g : ℕ) → up ((pos a -ℤ pos b) *ℤ pos g) + b * g ≡ dn ((pos a -ℤ pos b) *ℤ pos g) + a * g
-scaled_difference a b g =
-    let i = pos a -ℤ pos b in
-    let e : up i + b ≡ dn i + a = omega (arith, difference (pos a) (pos b), up_pos a, dn_pos a, up_pos b, dn_pos b) in
-    let m : (up i + b) * g ≡ (dn i + a) * g = ap (λ n. n * g) e in
-    omega (arith, m, add-mul (up i) b g, add-mul (dn i) a g, times_up i g, times_dn i g)
 
 -- ---- the lines
 pub luma_line : (o g y : ℕ) → luma_part o g y ≡ on_line g (luma_base_of o g) y

@@ -8,6 +8,7 @@ use Rattle.words.specs.Integers.{floor_div, clamp_to}
 use Rattle.yuv_parts.specs.Widths.{fit, asks, gives, shifted, kept}
 use Rattle.words.specs.Ranges.{Within, wider, plus, less, of_pos}
 use Rattle.stretch_rect.specs.declared.Rgb.{Rgb}
+use Rattle.stretch_rect.proofs.Clamps.{clamped}
 
 -- z as a machine of w bits reads it back
 abbrev pub back : Width → ℤ → ℤ
@@ -92,8 +93,8 @@ same_rgb_lem red green blue = λ i. record { r = red i; g = green i; b = blue i 
 -- ---- the clamp to a byte: the library's is the definition's, and small
 pub byte_clamp : (z : ℤ) → (int_max (pos 0) (int_min z (pos 255)) ≡ pos (clamp_to 255 z)) × (clamp_to 255 z ≤ 255)
 unfolding clamp_to
-byte_clamp (pos n) = (grind arith, omega arith)
-byte_clamp (negsuc n) = (refl, omega arith)
+byte_clamp (pos n) = (clamped (pos n), omega arith)
+byte_clamp (negsuc n) = (clamped (negsuc n), omega arith)
 
 -- ---- a clamp to a byte by two tests
 pub below : (z : ℤ) → lt_z z (pos 0) ≡ true → 0 ≡ clamp_to 255 z

@@ -10,7 +10,7 @@ ghost use Rattle.regions.specs.Rows.{RowFits};
 use convert_reply::{RegionRow, YuvSource};
 use formats::RgbFormat;
 
-// A row of YUV, texel by texel: the run of all its columns.
+// A row of YUV, texel by texel: the run of all its columns. That it fits is asked, as in `yuv_texels`.
 #[tactic(auto, using(yuv_texels::proofs::Whole::run_whole))]
 pub fn texel_row(
     dst: &mut [u8],

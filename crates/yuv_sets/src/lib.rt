@@ -77,7 +77,8 @@ pub fn is_legal(numbers: YuvSet) -> bool
 }
 
 impl YuvSet {
-    // These numbers as a legal set, where they are legal.
+    // These numbers as a legal set, where they are legal. An Option, and no `TryFrom`: which refusal an illegal set is, the one caller says. The
+    // test is an `if`: `then_some` makes its value before it, where that they are legal is not known.
     #[tactic(auto, using(crate::specs::Legal::legal))]
     pub fn legal(self) -> Option<LegalSet>
         ensures found { is_some result ≡ is_legal self }

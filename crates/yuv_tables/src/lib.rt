@@ -10,6 +10,8 @@ ghost use Rattle.stretch_rect.specs.Yuv.{rgb_of, RgbNear, decimal_unit, decimal_
 use stretch_rect::Rgb;
 use yuv_parts::Parts;
 
+// Five tables, and none of pairs, though U and V have two each: each is tested against one rule over all its entries.
+
 // The scaled luma.
 const LUMA: [i32; 256] = [
     -1225503, -1149219, -1072935, -996651, -920367, -844083, -767799, -691515, -615231, -538947,

@@ -3,28 +3,42 @@
 // Ported from pixel_convert.rs of athei/mtld3d (an altered version, see NOTICE).
 #![tactic(auto)]
 
-ghost use Rattle.std.specs.Prelude.{◌≡◌, true, ◌+◌, ◌≤◌, ◌%◌, ◌/◌, eqb, length, take};
+ghost use Rattle.std.specs.Prelude.{◌≡◌, true, ℕ, ◌+◌, ◌*◌, ◌≤◌, ◌<◌, ◌%◌, ◌^◌, eqb, length, take};
+ghost use Rattle.formats.specs.Table.{bytes_of};
 ghost use Rattle.formats.specs.Formats.{rgb_code, packed_yuv_code, planar_yuv_code, yuv_code};
-ghost use Rattle.places.specs.Places.{layout_places, places_at, places_in, bytes_at};
-ghost use Rattle.places.specs.Planar.{LayoutFor};
-ghost use Rattle.regions.specs.Regions.{texel_of, texel_at};
+ghost use Rattle.planar_yuv.specs.Answers.{Legal};
+ghost use Rattle.places.specs.Places.{layout_places, places_in, bytes_at};
+ghost use Rattle.regions.specs.Regions.{to_at, texel_of};
 ghost use Rattle.regions.specs.Rows.{RowFits};
-ghost use Rattle.yuv_texels.specs.Runs.{run_written};
+ghost use Rattle.yuv_texels.specs.Runs.{run_written, TexelsWritten};
 
 use convert_reply::{RegionRow, YuvSource};
 use formats::{PackedYuv, PlanarYuv, RgbFormat, YuvFormat};
-use places::{Pitches, Spot};
+use places::Spot;
 use planar_yuv::{PlanarTexel, PlanarYuvLayout};
 use texels::Texel;
 use yuv_sets::LegalSet;
 
-// A texel of a planar source.
-#[tactic(auto, using(crate::proofs::Fetched::can_read, crate::proofs::Fetched::planar_colour))]
-fn fetch_planar(set: LegalSet, src: &[u8], format: PlanarYuv, texel: PlanarTexel) -> Texel
-    requires { places_in (length src.now) (layout_places (planar_yuv_code format) texel.layout.pitch texel.layout.luma_rows texel.y texel.x) ≡ true }
-    ensures { result ≡ texel_of set.numbers (planar_yuv_code format) (eqb (texel.x % 2) 1) (bytes_at src.now (layout_places (planar_yuv_code format) texel.layout.pitch texel.layout.luma_rows texel.y texel.x)) }
+// A texel of a planar source. It is made here: the run's closure, where it could be, does not know that its column is one of the row, so
+// that its ghost field stays open there (tried).
+#[tactic(auto, using(crate::proofs::Fetched::planar_texel, crate::proofs::Fetched::can_read, crate::proofs::Fetched::planar_colour))]
+fn fetch_planar(
+    set: LegalSet,
+    src: &[u8],
+    format: PlanarYuv,
+    layout: PlanarYuvLayout,
+    at: Spot,
+) -> Texel
+    requires { Legal layout × (places_in (length src.now) (layout_places (planar_yuv_code format) layout.pitch layout.luma_rows at.y at.x) ≡ true) }
+    ensures { result ≡ texel_of set.numbers (planar_yuv_code format) (eqb (at.x % 2) 1) (bytes_at src.now (layout_places (planar_yuv_code format) layout.pitch layout.luma_rows at.y at.x)) }
 {
-    regions::opaque(stretch_rect::decode_planar_yuv(set, format, src, texel))
+    let texel = PlanarTexel {
+        format,
+        layout,
+        x: at.x,
+        y: at.y,
+    };
+    regions::opaque(stretch_rect::decode_planar_yuv(set, src, texel))
 }
 
 // A texel of a macropixel, which is lent from its first byte on.
@@ -36,40 +50,46 @@ fn fetch_packed(set: LegalSet, macropixel: &[u8], format: PackedYuv, x: usize) -
     regions::opaque(stretch_rect::decode_packed_yuv(set, format, macropixel, x % 2 == 1))
 }
 
-// A texel of a source; `layout` is a planar source's.
-#[tactic(auto, using(crate::proofs::Fetched::planar_in, crate::proofs::Fetched::planar_fetched, crate::proofs::Fetched::packed_in, crate::proofs::Fetched::packed_fetched))]
-fn fetch(
-    source: YuvSource,
-    src: &[u8],
-    layout: PlanarYuvLayout,
-    pitches: Pitches,
-    at: Spot,
-) -> Texel
-    requires { (LayoutFor (yuv_code source.format) pitches.row (pitches.slice / pitches.row) layout) × (places_in (length src.now) (places_at (yuv_code source.format) pitches.row pitches.slice at.z at.y at.x) ≡ true) }
-    ensures { result ≡ texel_at source.set.numbers src.now (yuv_code source.format) pitches.row pitches.slice at.z at.y at.x }
+// Where a run that begins at column `first` of a row starts in the destination.
+#[tactic(auto, unfolding(regions::specs::Regions::to_at))]
+pub fn run_start(dst_format: RgbFormat, at: RegionRow, first: usize) -> usize
+    requires { (at.region.dst_y + at.row < 2 ^ 64) × (at.region.dst_x + first < 2 ^ 64) × (to_at (rgb_code dst_format) at.region at.z at.row first < 2 ^ 64) }
+    ensures { result ≡ to_at (rgb_code dst_format) at.region at.z at.row first }
 {
-    match source.format {
-        YuvFormat::Planar(planar) => {
-            let texel = PlanarTexel {
-                layout,
-                x: at.x,
-                y: at.y,
-            };
-            fetch_planar(source.set, src, planar, texel)
-        }
-        YuvFormat::Packed(packed) => {
-            let start = pitches.start_of(4, Spot { x: at.x / 2, ..at });
-            fetch_packed(source.set, &src[start..], packed, at.x)
-        }
+    let rows = at.region.destination_pitches();
+    rows.start_of(dst_format.bytes_per_texel(), at.destination_spot(first))
+}
+
+// `count` texels from byte `first_to` of the destination on, where `texel` gives the i-th. Columns are counted, here and in the runs: they
+// lie a step apart, and the buffer goes on behind them.
+fn write_run<T: Fn(usize) -> Texel>(
+    texel: T,
+    count: usize,
+    dst: &mut [u8],
+    dst_format: RgbFormat,
+    first_to: usize,
+)
+    requires texels { (i : ℕ) → i < count → T.pre texel i }
+    requires room { first_to + count * bytes_of (rgb_code dst_format) ≤ length dst.old }
+    ensures { TexelsWritten (T.post texel) (rgb_code dst_format) first_to count dst.old dst.new }
+{
+    let size = dst_format.bytes_per_texel();
+    // Carried, as a destination's offset is to be (docs/changes/02-step-along-the-row.md); of what is written through `chunks_exact_mut` a
+    // proof learns the length alone.
+    let mut to = first_to;
+    for i in 0..count {
+        texel_words::encode_rgb_pixel(dst_format, texel(i), &mut dst[to..]);
+        to += size;
     }
 }
 
 // That a row fits both buffers (`RowFits`) is asked of the caller, here and in the other rows of a region, and is no field of a type: it
-// speaks of the lengths of what is lent, and a struct would have to hold the buffers, one of which is written.
+// speaks of the lengths of what is lent, and a struct would have to hold the buffers, one of which is written, and be taken apart for
+// each call. So it is with `places_in` of a texel and the source that it lies in; and what is written and what is read stay two
+// parameters each, a buffer and what it holds. That a layout is legal, which three functions ask for, is no field of `PlanarYuvLayout`
+// (line there).
 
-// `count` texels of a row of YUV, from column `first` of it on: the source's places are worked out afresh for each, and the destination's
-// offset is carried.
-#[tactic(auto, using(crate::proofs::Steps::texel_ends, crate::proofs::Steps::run_none), unfolding(regions::specs::Regions::to_at))]
+// `count` texels of a row of YUV, from column `first` of it on. A planar source has a layout: the row has a texel that lies in it.
 pub fn texel_run(
     dst: &mut [u8],
     dst_format: RgbFormat,
@@ -83,13 +103,27 @@ pub fn texel_run(
     ensures { dst.new ≡ run_written source.set.numbers src.now (yuv_code source.format) (rgb_code dst_format) at.region at.z at.row first count dst.old }
 {
     let pitches = at.region.source_pitches();
-    let layout = places::source_layout(source.format, pitches);
-    let to_size = dst_format.bytes_per_texel();
-    let rows = at.region.destination_pitches();
-    let mut to = rows.start_of(to_size, at.destination_spot(first));
-    for i in 0..count {
-        let t = fetch(source, src, layout, pitches, at.source_spot(first + i));
-        texel_words::encode_rgb_pixel(dst_format, t, &mut dst[to..]);
-        to += to_size;
+    let start = at.source_spot(first);
+    let to = run_start(dst_format, at, first);
+    match source.format {
+        YuvFormat::Packed(packed) => {
+            let row = pitches.start_of(4, Spot { x: 0, ..start });
+            let texel = |i| {
+                let x = start.x + i;
+                fetch_packed(source.set, &src[row + x / 2 * 4..], packed, x)
+            };
+            write_run(texel, count, dst, dst_format, to);
+        }
+        YuvFormat::Planar(planar) => {
+            let layout = places::layout_in_slice(planar, pitches).unwrap();
+            let texel = |i| {
+                let spot = Spot {
+                    x: start.x + i,
+                    ..start
+                };
+                fetch_planar(source.set, src, planar, layout, spot)
+            };
+            write_run(texel, count, dst, dst_format, to);
+        }
     }
 }

@@ -40,19 +40,19 @@ loop-done-init c = record {
 pub read_texels-from-requires : goal.read_texels-from-requires
 read_texels-from-requires c =
     let l = c.loop-done in
-    let p = part_of l.done c.args.at.region.width c.min-n.result l.block c.loop-done-test.true c.min-n.ensures l.invariant.block in
+    let p = part_of l.block c.loop-done-test.true c.min-n.ensures l.invariant.block in
     (p.0, reads c.args.src.now c.requires.0 (lane_source_is c.args.source.format) l.invariant.reached _ p.0 p.1)
 
 pub write_texels-to-requires : goal.write_texels-to-requires
 write_texels-to-requires c =
     let l = c.loop-done in
-    let p = part_of l.done c.args.at.region.width c.min-n.result l.block c.loop-done-test.true c.min-n.ensures l.invariant.block in
+    let p = part_of l.block c.loop-done-test.true c.min-n.ensures l.invariant.block in
     rw (c.read_texels-from.auto.block, l.invariant.kept) (writes c.args.src.now c.requires.0 (lane_source_is c.args.source.format) l.invariant.reached _ p.0 p.1)
 
 pub loop-done-preserved : goal.loop-done-preserved
 loop-done-preserved c =
     let l = c.loop-done in
-    let p = part_of l.done c.args.at.region.width c.min-n.result l.block c.loop-done-test.true c.min-n.ensures l.invariant.block in
+    let p = part_of l.block c.loop-done-test.true c.min-n.ensures l.invariant.block in
     let read = c.read_texels-from in
     record {
       reached = further c.args.src.now c.requires.0 (lane_source_is c.args.source.format) l.invariant.reached _ p.0 p.1 read.ensures c.write_texels-to.ensures read.auto.block _ (omega (arith, p.2));
@@ -68,7 +68,7 @@ returns-else-eq c =
 pub returns-else-eq-2 : goal.returns-else-eq-2
 returns-else-eq-2 c =
     let l = c.loop-done in
-    let p = part_of l.done c.args.at.region.width c.min-n.result l.block c.loop-done-test.true c.min-n.ensures l.invariant.block in
+    let p = part_of l.block c.loop-done-test.true c.min-n.ensures l.invariant.block in
     let read = c.read_texels-from in
     let done = further c.args.src.now c.requires.0 (lane_source_is c.args.source.format) l.invariant.reached _ p.0 p.1 read.ensures c.write_texels-to.ensures read.auto.block _ refl in
     whole c.args.src.now c.requires.0 (lane_source_is c.args.source.format) _ _ _ _ _ done (omega (arith, p.2))

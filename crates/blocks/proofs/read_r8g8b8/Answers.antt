@@ -5,5 +5,5 @@ use Rattle.blocks.proofs.read_r8g8b8.Goals as goal
 
 pub returns : goal.returns
 returns c =
-    let read = c.read_rgb_block-off in
+    let read = c.read_block-off in
     read_last _ _ _ _ _ _ _ _ c.requires.1 (simp length-take (omega arith)) read.auto.block (simp length-drop (omega arith)) read.ensures c.read_word.ensures

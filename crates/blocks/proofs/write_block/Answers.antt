@@ -1,18 +1,15 @@
 -- `blocks::write_block` meets its contract: texel by texel, with the offset carried. Assumes nothing.
-use Rattle.std.proofs.Common.{◌≡◌, ◌+◌, ◌*◌, ◌<◌, ◌≤◌, ℕ, length, refl, sym, ap, ◌∙◌, arith}
-use lib.Seq.{sets, length-sets}
+use Rattle.std.proofs.Common.{◌+◌, length, refl, sym, ap, ◌∙◌, arith}
+use Rattle.std.proofs.lemmas.List.Edits.{sets}
+use Rattle.std.proofs.Math.Seq.{length-sets}
 use Rattle.words.specs.Iterate.{iterate_zero}
 use Rattle.formats.specs.Codes.{A8R8G8B8}
 use Rattle.formats.specs.Table.{bytes_of}
 use Rattle.texels.specs.Texels.{decoded_of, encoded_bytes}
 use Rattle.texels.specs.Words.{texel_back}
 use Rattle.formats.specs.Formats.{rgb_code}
-use Rattle.blocks.specs.Blocks.{write_more, each_in, once_more}
+use Rattle.blocks.specs.Blocks.{room, write_more, once_more}
 use Rattle.blocks.proofs.write_block.Goals as goal
-
--- where there is room for n texels, there is room for the k-th
-room : (len now to size n k off : ℕ) → now ≡ len → to + n * size ≤ len → k < n → off ≡ to + k * size → off + size ≤ now
-room len now to size n k off s r l e = omega (arith, s, e, each_in len to size n r k l)
 
 pub loop-k-init : goal.loop-k-init
 loop-k-init g c = record {

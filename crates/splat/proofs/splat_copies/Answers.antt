@@ -1,6 +1,6 @@
 -- `splat::splat_copies` meets its contract: the blocks so far are the pattern's, and a whole number of patterns before a byte stands the same one. Assumes nothing.
 use Rattle.std.proofs.Common.{sym, ap, ◌∙◌, subst, ◌+◌, ◌*◌, ◌-◌, le_refl, arith, length}
-use lib.Seq.{length-sets}
+use Rattle.std.proofs.Math.Seq.{length-sets}
 use Rattle.splat.proofs.Splats.{Done, all_done, done_copy, front}
 use Rattle.splat.proofs.splat_copies.Goals as goal
 

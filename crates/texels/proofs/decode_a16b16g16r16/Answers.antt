@@ -1,7 +1,6 @@
 -- `texels::decode_a16b16g16r16` meets its contract: each half of a word of four bytes is the lane of the table. Assumes nothing.
-use Rattle.std.proofs.Common.{◌≡◌, ap, ◌∙◌, subst, List, ℕ, ◌+◌, ◌*◌, ◌/◌, ◌%◌, ◌^◌, ◌<◌, arith, take, drop, length-take-le}
-use Rattle.words.specs.Little.{Small, number, number_split, number_lt, small_list, small_take}
-use Rattle.words.specs.Slices.{part_read}
+use Rattle.std.proofs.Common.{◌≡◌, ap, ◌∙◌, subst, ℕ, ◌+◌, ◌*◌, ◌/◌, ◌%◌, ◌^◌, ◌<◌, arith, take, drop, length-take-le}
+use Rattle.words.specs.Little.{Small, number, number_rest, number_split, number_lt, small_list, small_take}
 use Rattle.formats.specs.Table.{lane_of, parts_of}
 use Rattle.channels.specs.Nearest.{rounded}
 use Rattle.texels.specs.Texels.{decoded_of, colour_of}
@@ -23,7 +22,7 @@ returns c =
     let each = lanes low high (number (take 8 l)) below (number_split 4 4 l (omega (arith, room))) in
     let byte : ℕ → ℕ = λ n. rounded (255 * n) 65535 in
     let first = c.le32-low.ensures in
-    let second = c.le32-high.ensures ∙ ap (λ (m : List ℕ). number (take 4 m)) (part_read l 4) in
+    let second = c.le32-high.ensures ∙ number_rest 4 4 l in
     cc (
       c.nearest16.ensures ∙ ap (λ n. byte (n % 65536)) first ∙ ap byte each.0,
       c.nearest16-2.ensures ∙ ap (λ n. byte (n / 65536 % 65536)) first ∙ ap byte each.1,

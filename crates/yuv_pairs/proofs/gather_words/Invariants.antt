@@ -1,6 +1,6 @@
-use Rattle.std.specs.Prelude.{◌≡◌, ◌+◌, ◌*◌}
+use Rattle.std.specs.Prelude.{◌+◌}
 use Rattle.yuv_pairs.specs.Gathered.{Gathered}
 use Rattle.yuv_pairs.proofs.gather_words.Given as goal
 
-abbrev pub invariant-loop-word : goal.invariant-loop-word
-invariant-loop-word l = Gathered l.src l.from (l.from + 1) 2 l.word-index l.word-items × (l.at ≡ l.from + l.word-index * 2)
+abbrev pub invariant-loop-i : goal.invariant-loop-i
+invariant-loop-i l = Gathered l.src l.from (l.from + 1) 2 l.i l.out

@@ -1,10 +1,9 @@
 -- `yuv_tables::yuv_to_rgb8_by_tables` meets its contract: the five parts make bt601's colour, and Decimals bounds the distance from the decimals. Assumes nothing.
-use Rattle.std.proofs.Common.{◌≡◌, sym, ◌∙◌, subst, arith, lit≤, ℤ, w32, to_z, of_z}
-use Rattle.std.proofs.lemmas.Int.{ints}
+use Rattle.std.proofs.Common.{sym, ◌∙◌, subst, lit≤}
 use Rattle.yuv_sets.specs.Sets.{bt601}
 use Rattle.stretch_rect.specs.Yuv.{luma_part, luma_exact, chroma_part, chroma_exact, RgbNear, decimal_unit, decimal_slack, red_decimal, green_decimal, blue_decimal}
 use Rattle.stretch_rect.proofs.Decimals.{bt601_near}
-use Rattle.yuv_parts.specs.Parts.{PartSize, joined, joined_set}
+use Rattle.yuv_parts.specs.Parts.{joined, joined_set}
 use Rattle.yuv_tables.proofs.Lookup.{read_back, read_back_size}
 use Rattle.yuv_tables.proofs.Sizes.{luma_rule, chroma_rule, luma_size, chroma_size}
 use Rattle.yuv_tables.proofs.yuv_to_rgb8_by_tables.Goals as goal

@@ -10,6 +10,6 @@ use Rattle.depth_pixels.proofs.D16PackedPixel.decode.Goals as goal
 pub returns : goal.returns
 returns c =
     let w = c.le16.result in
-    let pixel = c.args.pixel.now in
+    let pixel = c.args.packed.now in
     decodes codes.D16 65535 0x477f_ff00 w w 0 literal_16 max_d16 (code_d16 w (omega arith)) (no_stencil D16 stencil_d16 w)
     ∙ ap (decoded codes.D16) (sym (word_read codes.D16 2 pixel w size_d16 c.le16.ensures))

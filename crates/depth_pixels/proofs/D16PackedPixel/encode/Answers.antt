@@ -8,4 +8,4 @@ pub returns : goal.returns
 returns c =
     let g = c.args in
     let code = c.code_of in
-    encodes codes.D16 65535 2 g.value code.result g.pixel.now c.put16.ensures size_d16 max_d16 code.ensures (word_d16 code.result g.value.stencil)
+    encodes codes.D16 65535 2 g.pixel.value code.result g.packed.now c.put16.ensures size_d16 max_d16 code.ensures (word_d16 code.result g.pixel.value.stencil)

@@ -12,5 +12,5 @@ pub returns : goal.returns
 returns c =
     let g = c.args in
     let code = c.code_of-code in
-    encodes codes.D24S8 16777215 4 g.value code.result g.pixel.now c.put32.ensures size_d24s8 max_d24s8 code.ensures
-    (word_d24s8 code.result g.value.stencil ∙ by_bytes code.result g.value.stencil)
+    encodes codes.D24S8 16777215 4 g.pixel.value code.result g.packed.now c.put32.ensures size_d24s8 max_d24s8 code.ensures
+    (word_d24s8 code.result g.pixel.value.stencil ∙ by_bytes code.result g.pixel.value.stencil)

@@ -10,6 +10,6 @@ use Rattle.depth_pixels.proofs.D24X8PackedPixel.decode.Goals as goal
 pub returns : goal.returns
 returns c =
     let w = c.le32-word.result in
-    let pixel = c.args.pixel.now in
+    let pixel = c.args.packed.now in
     decodes codes.D24X8 16777215 0x4b7f_ffff w (w % 16777216) 0 literal_24 max_d24x8 (code_d24x8 w) (no_stencil D24X8 stencil_d24x8 w)
     ∙ ap (decoded codes.D24X8) (sym (word_read codes.D24X8 4 pixel w size_d24x8 c.le32-word.ensures))

@@ -12,4 +12,4 @@ pub returns : goal.returns
 returns c =
     let g = c.args in
     let code = c.code_of-code in
-    encodes codes.D24X8 16777215 4 g.value code.result g.pixel.now c.put32.ensures size_d24x8 max_d24x8 code.ensures (word_d24x8 code.result g.value.stencil ∙ below_unused code.result)
+    encodes codes.D24X8 16777215 4 g.pixel.value code.result g.packed.now c.put32.ensures size_d24x8 max_d24x8 code.ensures (word_d24x8 code.result g.pixel.value.stencil ∙ below_unused code.result)

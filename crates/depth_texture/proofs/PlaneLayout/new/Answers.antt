@@ -1,11 +1,15 @@
 -- `depth_texture::PlaneLayout::new` meets its contract: each answer by the tests that led to it. Assumes nothing.
-use Rattle.std.proofs.Common.{◌≡◌, sym, ap, ◌∙◌, inl, inr, ◌*◌, max, arith, true}
+use Rattle.std.proofs.Common.{◌≡◌, Bool, ℕ, eqb, sym, ap, ◌∙◌, inl, inr, max, arith}
+use Rattle.std.specs.Int.Count.{ones}
 use Rattle.depth_texture.specs.Layouts.{is_power_of_two}
 use Rattle.depth_texture.specs.Powers.{counted}
 use Rattle.depth_texture.specs.Refusals.{zero_width, zero_height, no_power, over, made}
-use Rattle.words.specs.Multiples.{raised}
 use Rattle.depth_texture.proofs.Library.{next_raised}
 use Rattle.depth_texture.proofs.PlaneLayout.new.Goals as goal
+
+-- the test of the unit u
+tested : (a : ℕ) {u : ℕ} {t b : Bool} → u ≡ max 4 a → t ≡ eqb (ones u) 1 → t ≡ b → is_power_of_two (max 4 a) ≡ b
+tested a {u = u} unit e t = ap is_power_of_two (sym unit) ∙ sym (counted u) ∙ sym e ∙ t
 
 pub returns-then-width-eq0 : goal.returns-then-width-eq0
 returns-then-width-eq0 c =
@@ -20,28 +24,26 @@ returns-then-not-is_power_of_two c =
     let a = c.args in
     let unit : c.max-unit.result ≡ max 4 a.alignment = omega (arith, c.max-unit.ensures) in
     no_power a.width a.height a.alignment c.if-width-eq0.false c.if-height-eq0.false
-    (ap is_power_of_two (sym unit) ∙ sym (counted c.max-unit.result) ∙ sym c.is_power_of_two.ensures ∙ c.if-not-is_power_of_two.true)
+    (tested a.alignment unit c.is_power_of_two.ensures c.if-not-is_power_of_two.true)
 
 pub returns-then-not-planes_fit : goal.returns-then-not-planes_fit
 returns-then-not-planes_fit c =
     let a = c.args in
     let unit : c.max-unit.result ≡ max 4 a.alignment = omega (arith, c.max-unit.ensures) in
-    let power : is_power_of_two (max 4 a.alignment) ≡ true = ap is_power_of_two (sym unit) ∙ sym (counted c.max-unit.result) ∙ sym c.is_power_of_two.ensures ∙ c.if-not-is_power_of_two.false in
     let d = c.next_multiple_of-depth_pitch in
     let s = c.next_multiple_of-stencil_pitch in
-    over a.width a.height a.alignment c.if-width-eq0.false c.if-height-eq0.false power d.result s.result
-    (next_raised (a.width * 4) c.max-unit.result d.result (omega (arith, unit)) d.ensures.lower_bound d.ensures.upper_bound d.ensures.multiple ∙ ap (raised (a.width * 4)) unit)
-    (next_raised a.width c.max-unit.result s.result (omega (arith, unit)) s.ensures.lower_bound s.ensures.upper_bound s.ensures.multiple ∙ ap (raised a.width) unit)
+    over a.width a.height a.alignment c.if-width-eq0.false c.if-height-eq0.false (tested a.alignment unit c.is_power_of_two.ensures c.if-not-is_power_of_two.false) d.result s.result
+    (next_raised a.alignment unit d.ensures.lower_bound d.ensures.upper_bound d.ensures.multiple)
+    (next_raised a.alignment unit s.ensures.lower_bound s.ensures.upper_bound s.ensures.multiple)
     (sym c.planes_fit.ensures ∙ c.if-not-planes_fit.true)
 
 pub returns : goal.returns
 returns c =
     let a = c.args in
     let unit : c.max-unit.result ≡ max 4 a.alignment = omega (arith, c.max-unit.ensures) in
-    let power : is_power_of_two (max 4 a.alignment) ≡ true = ap is_power_of_two (sym unit) ∙ sym (counted c.max-unit.result) ∙ sym c.is_power_of_two.ensures ∙ c.if-not-is_power_of_two.false in
     let d = c.next_multiple_of-depth_pitch in
     let s = c.next_multiple_of-stencil_pitch in
-    made a.width a.height a.alignment c.if-width-eq0.false c.if-height-eq0.false power d.result s.result
-    (next_raised (a.width * 4) c.max-unit.result d.result (omega (arith, unit)) d.ensures.lower_bound d.ensures.upper_bound d.ensures.multiple ∙ ap (raised (a.width * 4)) unit)
-    (next_raised a.width c.max-unit.result s.result (omega (arith, unit)) s.ensures.lower_bound s.ensures.upper_bound s.ensures.multiple ∙ ap (raised a.width) unit)
+    made a.width a.height a.alignment c.if-width-eq0.false c.if-height-eq0.false (tested a.alignment unit c.is_power_of_two.ensures c.if-not-is_power_of_two.false) d.result s.result
+    (next_raised a.alignment unit d.ensures.lower_bound d.ensures.upper_bound d.ensures.multiple)
+    (next_raised a.alignment unit s.ensures.lower_bound s.ensures.upper_bound s.ensures.multiple)
     (sym c.planes_fit.ensures ∙ c.if-not-planes_fit.false)
