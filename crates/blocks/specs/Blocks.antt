@@ -1,9 +1,10 @@
 -- What it is to read texels into a block of A8R8G8B8 words and to write the texels of such words, with the offset that is carried along,
 -- and the laws of one texel more.
 -- Assumes nothing.
-use Rattle.std.specs.Prelude.{◌≡◌, refl, List, ◌++◌, ℕ, ◌+◌, ◌*◌, ◌-◌, ◌≤◌, ◌<◌, length, get_or, set, take, drop}
+use Rattle.std.specs.Prelude.{◌≡◌, refl, List, [], ◌∷◌, ◌++◌, ℕ, ◌+◌, ◌*◌, ◌-◌, ◌≤◌, ◌<◌, length, get_or, set, take, drop}
 use Rattle.std.proofs.Common.{sym, ap, ◌∙◌, subst, ⊎_elim, add-mul, mul-le-mul_right, arith, length-drop, length-append, get_or-set_same, get_or-set_other}
-use Rattle.std.proofs.lemmas.List.{get_or_append_left}
+use Rattle.std.proofs.lemmas.List.{get_or_append_left, set-get_or}
+use Rattle.std.proofs.Math.Seq.{get_or-append_seam}
 use Rattle.std.proofs.lemmas.List.Edits.{sets}
 use Rattle.words.specs.Little.{number, number_rest, number_split}
 use Rattle.words.specs.Iterate.{iterate}
@@ -36,9 +37,9 @@ pub record WordsWritten (word : ℕ → ℕ) (f to n : ℕ) (dst out : List ℕ)
   pub bytes : out ≡ iterate (word_written word f to) n dst
   pub carried : off ≡ to + n * bytes_of f
 
--- all that may be answered at k is word k, for each k below n
-abbrev pub Gives : (answer : ℕ → ℕ → Type 0) (n : ℕ) (word : ℕ → ℕ) → Type 0
-Gives answer n word = (k w : ℕ) → k < n → answer k w → w ≡ word k
+-- all that may be answered at k is value k, for each k below n
+abbrev pub Gives : {A : Type 0} → (answer : ℕ → A → Type 0) (n : ℕ) (value : ℕ → A) → Type 0
+Gives {A} answer n value = (k : ℕ) (v : A) → k < n → answer k v → v ≡ value k
 
 -- the texels of n answers were written, as those of any words that the answers must be
 pub record AnswersWritten (answer : ℕ → ℕ → Type 0) (f to n : ℕ) (dst out : List ℕ) (off : ℕ) : Type 0 where
@@ -118,16 +119,19 @@ three_before src from n block rest off r e b = record {
 }
 
 -- all but the last of n texels as X8R8G8B8, and the last as it is
-pub read_last : (src : List ℕ) (from n : ℕ) (front block rest : List ℕ) (off w : ℕ) → from + n * 3 ≤ length src → length front + 1 ≡ n → length block ≡ length front → 0 < length rest
-    → BlockRead src X8R8G8B8 3 from (length front) block off
+pub read_last : (src : List ℕ) (from n : ℕ) (others block : List ℕ) (off w : ℕ) → from + n * 3 ≤ length src → length others + 1 ≡ n → length block ≡ length others
+    → BlockRead src X8R8G8B8 3 from (length others) block off
     → w ≡ encoded_of A8R8G8B8 (decoded_of R8G8B8 (number (take (bytes_of R8G8B8) (take (length src - off) (drop off src)))))
-    → BlockRead src R8G8B8 3 from n (set (block ++ rest) (n - 1) w) (off + 3)
-read_last src from n front block rest off w r e l one b read =
-    let last : length front ≡ n - 1 = omega arith in
-    let held : length front < length (block ++ rest) = simp length-append (omega arith) in
-    subst (λ k. BlockRead src R8G8B8 3 from n (set (block ++ rest) k w) (off + 3)) last
-    (subst (λ k. BlockRead src R8G8B8 3 from k (set (block ++ rest) (length front) w) (off + 3)) e
-    (read_next src R8G8B8 3 from (length front) (block ++ rest) off w (three_before src from (length front) block rest off (omega arith) (sym l) b) held read))
+    → BlockRead src R8G8B8 3 from n (block ++ w ∷ []) (off + 3)
+read_last src from n others block off w r e l b read =
+    let m = length others in
+    let all = block ++ w ∷ [] in
+    let held : m < length all = simp length-append (omega arith) in
+    let seam : get_or all m 0 ≡ w = ap (λ k. get_or all k 0) (sym l) ∙ get_or-append_seam block w [] 0 in
+    let same : set all m w ≡ all = ap (set all m) (sym seam) ∙ set-get_or all m 0 in
+    subst (λ k. BlockRead src R8G8B8 3 from k all (off + 3)) e
+    (subst (λ x. BlockRead src R8G8B8 3 from (m + 1) x (off + 3)) same
+    (read_next src R8G8B8 3 from m all off w (three_before src from m block (w ∷ []) off (omega (arith, r, e)) (sym l) b) held read))
 
 -- ---- the arm of a format's code k, whose texels have z bytes
 module _ (f k z : ℕ) (e : f ≡ k) (b : bytes_of k ≡ z) where

@@ -35,19 +35,20 @@ fn read_block(block: &mut [u32], src: &[u8], format: LaneSource, step: usize, fr
     off
 }
 
-// No type for a block that is not empty, which four functions ask for: `block_row` cuts each part itself and knows it, and a type would be
-// taken apart in all four. Nor for a buffer with its format and its place, in these and in those that write: each arm hands the format on
-// anew, as a literal, so that a struct would be taken apart and made again in each.
+// No type for a buffer with its format and its place, in these and in those that write: each arm hands the format on anew, as a literal, so
+// that a struct would be taken apart and made again in each.
 
 // The same of R8G8B8. All but the last texel are read as X8R8G8B8, with the byte after their three: one load does for it.
 #[tactic(auto, unfolding(formats::specs::Table::bytes_of, formats::specs::Table::parts_of))]
 fn read_r8g8b8(block: &mut [u32], src: &[u8], from: usize) -> usize
-    requires { (0 < length block.old) × (from + length block.old * 3 ≤ length src.now) }
+    requires { from + length block.old * 3 ≤ length src.now }
     ensures { BlockRead src.now R8G8B8 3 from (length block.old) block.new result }
 {
-    let last = block.len() - 1;
-    let off = read_block(&mut block[..last], src, Rgb(RgbFormat::X8R8G8B8), 3, from);
-    block[last] = texel_words::read_word(Rgb(RgbFormat::R8G8B8), &src[off..]);
+    let Some((last, others)) = block.split_last_mut() else {
+        return from;
+    };
+    let off = read_block(others, src, Rgb(RgbFormat::X8R8G8B8), 3, from);
+    *last = texel_words::read_word(Rgb(RgbFormat::R8G8B8), &src[off..]);
     off + 3
 }
 
@@ -55,7 +56,7 @@ fn read_r8g8b8(block: &mut [u32], src: &[u8], from: usize) -> usize
 // loop of its own for it. A trait of formats would have an impl for each of the twelve, and here still a match, to choose one at run time.
 #[tactic(auto, using(crate::specs::Blocks::each_in), unfolding(formats::specs::Table::bytes_of, formats::specs::Table::parts_of))]
 fn read_rgb(block: &mut [u32], src: &[u8], format: RgbFormat, from: usize) -> usize
-    requires { (0 < length block.old) × (from + length block.old * bytes_of (rgb_code format) ≤ length src.now) }
+    requires { from + length block.old * bytes_of (rgb_code format) ≤ length src.now }
     ensures { BlockRead src.now (rgb_code format) (bytes_of (rgb_code format)) from (length block.old) block.new result }
 {
     match format {
@@ -77,7 +78,7 @@ fn read_rgb(block: &mut [u32], src: &[u8], format: RgbFormat, from: usize) -> us
 // The same of a source of whole numbers, likewise.
 #[tactic(auto, using(crate::specs::Blocks::each_in), unfolding(formats::specs::Table::bytes_of, formats::specs::Table::parts_of))]
 fn read_codes(block: &mut [u32], src: &[u8], format: CodeSource, from: usize) -> usize
-    requires { (0 < length block.old) × (from + length block.old * bytes_of (code_source_code format) ≤ length src.now) }
+    requires { from + length block.old * bytes_of (code_source_code format) ≤ length src.now }
     ensures { BlockRead src.now (code_source_code format) (bytes_of (code_source_code format)) from (length block.old) block.new result }
 {
     match format {
@@ -101,7 +102,7 @@ fn read_codes(block: &mut [u32], src: &[u8], format: CodeSource, from: usize) ->
 // `read_rgb`: each variant holds formats of its own.
 #[tactic(auto, using(crate::specs::Blocks::each_in), unfolding(formats::specs::Table::bytes_of, formats::specs::Table::parts_of))]
 pub fn read_texels(block: &mut [u32], src: &[u8], format: LaneSource, from: usize) -> usize
-    requires { (0 < length block.old) × (from + length block.old * bytes_of (lane_source_code format) ≤ length src.now) }
+    requires { from + length block.old * bytes_of (lane_source_code format) ≤ length src.now }
     ensures { BlockRead src.now (lane_source_code format) (bytes_of (lane_source_code format)) from (length block.old) block.new result }
 {
     match format {

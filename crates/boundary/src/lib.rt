@@ -48,8 +48,9 @@ pub fn region_of(
 
 // ---- planar layouts
 
-// The values of an answer, and its number. `put_planar` and `put_planes` stay two: by `Into<[u64; 4]>` they would be one, but then each
-// layout's crate would hold the order in which the C interface takes its values.
+// The values of an answer, and its number. `put_planar` and `put_planes` stay two: each lists its own four fields, and its contract cites a
+// definition of its own. By `Into<[u64; 4]>` each layout's crate would hold the order in which the C interface takes its values; a trait of
+// this crate would have that list and that definition in two impls, its laws besides, and one function over it, to serve two calls.
 pub fn put_planar(answer: Result<PlanarYuvLayout, NoPlanarLayout>, layout: &mut [u64; 4]) -> u32
     ensures reply { result ≡ (reply_of answer).number }
     ensures values { layout.new ≡ planar_values (reply_of answer) }

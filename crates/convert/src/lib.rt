@@ -25,8 +25,9 @@ mod pixel;
 
 pub use pixel::{FillPixel, NoFill};
 
-// The code is the number that the C interface hands over: an arm names its format once, where a type would name it twice more. A table
-// would hold a closure for each arm, since each packs other channels at other widths.
+// The code is the number that the C interface hands over, and any number has its answer: a type would ask more of the callers of a fill,
+// and an arm names its format once, where the type would name it twice more. A table would hold a closure for each arm, since each packs
+// other channels at other widths.
 
 // A colour's word in a format that can be filled. An X lane takes the colour's own alpha bits.
 #[tactic(auto, using(crate::proofs::Words::whole), unfolding(crate::specs::Fill::word_of, formats::specs::Table::bytes_of, formats::specs::Table::parts_of, texels::specs::Texels::encoded_of, channels::specs::Expansion::truncated))]

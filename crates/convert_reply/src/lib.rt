@@ -182,7 +182,8 @@ impl From<ConvertRefusal> for u32 {
     }
 }
 
-// ---- codes, as the C interface hands them over; `pair_of` makes types of them
+// ---- formats are codes in these, as the C interface hands them over: any number has its answer, so that a type would ask more of callers;
+// `pair_of` makes types of them
 
 // Whether UpdateSurface and UpdateTexture convert this source format into this destination format.
 #[tactic(auto, unfolding(crate::specs::Replies::can_convert_update))]
@@ -301,7 +302,7 @@ fn check_pair(
 }
 
 // The conversion between two formats by a set of numbers, or why it is refused, from the lengths of its buffers: the checks in their
-// order. The formats are codes here, as the C interface hands them over.
+// order. The formats are codes here, as above.
 #[tactic(auto, using(crate::specs::Passed::no_pair))]
 pub fn check(
     src_len: usize,

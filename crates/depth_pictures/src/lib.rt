@@ -15,8 +15,9 @@ use depth_pixels::PackedDepth;
 use depth_rows::Row;
 use depth_texture::{DepthRefusal, PlaneLayout};
 
-// ---- formats are numbers here, as the C interface hands them over. A picture is lent to be read by `unpack` and to be written by
-// `pack`, and the planes the other way round, so that a struct of a buffer with its pitch would be two structs, made at each call.
+// ---- formats are numbers here, as the C interface hands them over: any number has its answer, so that a type would ask more of callers. A
+// picture is lent to be read by `unpack` and to be written by `pack`, and the planes the other way round, so that a struct of a buffer with
+// its pitch would be two structs, made at each call.
 // Both begin alike, by the test and the rows that it makes: a function for that would have the six parameters again and hand on `check`'s
 // Result.
 

@@ -155,24 +155,25 @@ pub struct D24S8;
 // 3 above a multiple of 4. The largest code stays a number: each format hands over its own as a literal, and a type for it would be made
 // of the same literal with the same two facts.
 #[tactic(auto, using(crate::proofs::Patterns::code_rounded, crate::proofs::Patterns::bits_read))]
-fn code_of(max: u64, pixel: Pixel) -> u64
+fn code_of(max: u64, pixel: Pixel) -> u32
     requires { (max < 16777216) × (max % 4 ≡ 3) }
     ensures { result ≡ code_for max pixel.value.depth }
 {
-    f32_to_nearest_code(f32::to_bits(pixel.value.depth), max) as u64
+    f32_to_nearest_code(f32::to_bits(pixel.value.depth), max)
 }
 
-// The same depth and stencil, with 0 for a NaN. No From, which keeps what it takes.
+// The same depth and stencil, with 0 for a NaN. No From: a From loses nothing, and here a NaN is lost.
 #[tactic(auto, using(crate::proofs::Patterns::tested_nan))]
 fn without_nan(value: DepthStencil) -> Pixel
     ensures { (clamped result.value.depth ≡ clamped value.depth) × (result.value.stencil ≡ value.stencil) }
 {
     if value.depth.is_nan() {
-        let value = DepthStencil {
-            depth: 0.0,
-            stencil: value.stencil,
+        return Pixel {
+            value: DepthStencil {
+                depth: 0.0,
+                ..value
+            },
         };
-        return Pixel { value };
     }
     Pixel { value }
 }
@@ -237,7 +238,7 @@ impl PackedPixel for D24X8 {
 
     #[tactic(auto, using(crate::specs::Restoration::code_for_lem))]
     fn encode(pixel: Pixel, packed: &mut [u8]) {
-        let code = code_of(16777215, pixel) as u32;
+        let code = code_of(16777215, pixel);
         put32(packed, UNUSED * 0x100_0000 + code);
     }
 
@@ -262,20 +263,21 @@ impl PackedPixel for D24S8 {
     #[tactic(auto, using(crate::specs::PackedFormats::size_d24s8, crate::specs::PackedFormats::max_d24s8, crate::specs::PackedFormats::code_d24s8, crate::specs::PackedFormats::stencil_of_d24s8, crate::proofs::Coding::literal_24, crate::proofs::Coding::word_read, crate::proofs::Coding::decodes, crate::proofs::Coding::number_24))]
     fn decode(packed: &[u8]) -> Pixel {
         let word = le32(packed);
+        let [stencil, ..] = word.to_le_bytes();
         let value = DepthStencil {
             depth: ((word / 0x100) as f32) / 16777215.0,
-            stencil: (word % 0x100) as u8,
+            stencil,
         };
         Pixel { value }
     }
 
     // The stencil byte, and above it the code's bytes from the lowest one on.
-    #[tactic(auto, using(crate::specs::Restoration::code_for_lem))]
     fn encode(pixel: Pixel, packed: &mut [u8]) {
-        let code = code_of(16777215, pixel) as u32;
-        let lowest = code % 0x100;
-        let stencil = pixel.value.stencil as u32;
-        put32(packed, code / 0x100 * 0x1_0000 + lowest * 0x100 + stencil);
+        let [low, middle, high, _] = code_of(16777215, pixel).to_le_bytes();
+        put32(
+            packed,
+            u32::from_le_bytes([pixel.value.stencil, low, middle, high]),
+        );
     }
 
     ghost sized = { sym size_d24s8 };

@@ -10,8 +10,9 @@ use Rattle.depth_texture.specs.Layouts.{limit, planes_fit}
 use Rattle.depth_texture.specs.Replies.{packed_holds}
 
 -- the multiple of the unit u that is n or more, and less than u above it
-pub next_raised : (a : ℕ) {n u r : ℕ} → u ≡ max 4 a → n ≤ r → r < n + u → r % u ≡ 0 → r ≡ raised n (max 4 a)
-next_raised a {n = n} {u = u} {r = r} unit low high multiple =
+pub next_raised : (a : ℕ) {n u r : ℕ} → u ≡ max a 4 → n ≤ r → r < n + u → r % u ≡ 0 → r ≡ raised n (max 4 a)
+next_raised a {n = n} {u = u} {r = r} greater low high multiple =
+    let unit : u ≡ max 4 a = omega (arith, greater) in
     let m = raised n u in
     let R : Raised n u m = raised_is n u (omega (arith, unit)) in
     let q = r / u in

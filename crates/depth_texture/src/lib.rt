@@ -170,7 +170,7 @@ impl PlaneLayout {
         Ok(kind)
     }
 
-    // The format is a number here, as the C interface hands it over.
+    // The format is a number here, as the C interface hands it over: any number has its answer, so that a type would ask more of callers.
     // The tests before unpacking and packing, from the lengths of the packed buffer and the two planes.
     #[tactic(auto, using(crate::specs::Refusals::refused_9))]
     pub fn check(

@@ -68,7 +68,8 @@ fn convert_slices(dst: &mut [u8], src: &[u8], conversion: Conversion, region: Co
     }
 }
 
-// ---- formats are numbers here, as the C interface hands them over; the reply has their types
+// ---- formats are numbers here, as the C interface hands them over: any number has its answer, so that a type would ask more of callers.
+// The reply has their types.
 
 // Converts a region of `src` into `dst`, by slice, row and column; a YUV source by a set of numbers. The reply is decided before the
 // first byte is written; refused, `dst` is as it was.

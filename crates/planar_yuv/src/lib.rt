@@ -17,8 +17,9 @@ mod texel;
 pub use texel::PlanarTexel;
 
 // Where the planes of a frame stand. That it is legal (`Legal`) is asked of the caller and no ghost field: the definitions have a layout of
-// zeros for what is refused (`layout_of`), which is not. A type that wraps it would stand in the two exported answers, whose definitions
-// (`reply_of`, `PlanesOf`) read a `PlanarYuvLayout`.
+// zeros for what is refused (`layout_of`), which is not legal. Three functions ask it, and a type that wraps a layout is no plainer: of the
+// three `storage_rows` is a method of any layout, and the others (`places::layout_has`, `yuv_texels::fetch_planar`) make a `PlanarTexel` of
+// theirs, which has the fact; the type would be made of each layout that is found, for its one use, and be taken apart there.
 #[derive(Clone, Copy)]
 pub struct PlanarYuvLayout {
     pub pitch: u32,
@@ -56,7 +57,8 @@ impl PlanarYuvLayout {
     }
 }
 
-// ---- formats are numbers in these two, as the C interface hands them over
+// ---- formats are numbers in these two, as the C interface hands them over: any number has its answer, so that a type would ask more of
+// callers; `layout_from_pitch` takes one
 
 // The layout of a frame of width x height texels; its pitch is the width raised to a multiple of 4.
 #[tactic(auto, using(crate::specs::Answers::width_none, crate::specs::Answers::width_large, crate::specs::Answers::of_width, crate::specs::Answers::rows_hold))]
@@ -92,7 +94,7 @@ pub fn planar_yuv_layout_from_pitch(
     layout_from_pitch(format, pitch, luma_rows)
 }
 
-// The same of a planar format.
+// The same of a planar format. A match: YV12 has one rule more, and both go on to the rules that they share.
 #[tactic(auto, using(crate::proofs::Refused::too_wide, crate::proofs::Refused::too_tall, crate::proofs::Refused::odd_yv12, crate::specs::Answers::yv12_even, crate::proofs::AnswersLaws::planes_of))]
 pub fn layout_from_pitch(
     format: PlanarYuv,

@@ -49,7 +49,7 @@ impl<'a> Record<'a, 64> {
     }
 }
 
-// A case for each call, here and in buffers.rt: those that look alike differ in the call and in the types of its parameters, and one
+// A case for each call, here and in buffers.rt: those that look alike differ in the call, and most in the types of its parameters. One
 // function over `Fn` would be handed a closure that says what stands here.
 
 fn can_convert(record: Record<'_, 64>) -> bool {

@@ -93,9 +93,8 @@ fn splat_copies(dst: &mut [u8], pixel: &[u8])
         return;
     }
     splat_bytes(&mut dst[..back], pixel);
-    let blocks = (len - back) / BLOCK;
-    for turn in 0..blocks {
-        copy_block(dst, back + turn * BLOCK, back);
+    for at in (back..len - BLOCK).step_by(BLOCK) {
+        copy_block(dst, at, back);
     }
     copy_block(dst, len - BLOCK, back);
 }

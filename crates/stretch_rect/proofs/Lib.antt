@@ -3,5 +3,6 @@ pub mod Sizes
 pub mod Bytes
 pub mod Clamps
 pub mod Decimals
+pub mod PartLaws
 pub mod NearnessLaws
 pub mod ExactLaws

@@ -8,7 +8,7 @@ ghost use Rattle.std.specs.Prelude.{◌≡◌, ◌≤◌, length, unsigned_abs};
 ghost use Rattle.words.specs.Integers.{clamp_to};
 ghost use Rattle.formats.specs.Formats.{packed_yuv_code, planar_yuv_code};
 ghost use Rattle.yuv_sets.specs.Sets.{bt601};
-ghost use Rattle.stretch_rect.specs.Yuv.{luma_part, chroma_part, nearest_whole, rgb_of, RgbNear, set_unit, set_slack, red_exact, green_exact, blue_exact, decimal_unit, decimal_slack, red_decimal, green_decimal, blue_decimal};
+ghost use Rattle.stretch_rect.specs.Yuv.{luma_part, nearest_whole, rgb_of, RgbNear, set_unit, set_slack, red_exact, green_exact, blue_exact, decimal_unit, decimal_slack, red_decimal, green_decimal, blue_decimal};
 ghost use Rattle.stretch_rect.specs.Samples.{packed_rgb, planar_rgb, Readable};
 
 use formats::PackedYuv;
@@ -23,26 +23,14 @@ pub struct Rgb {
     pub b: u8,
 }
 
-// The luma's part, in 65536ths. Luma and chroma stay two, here and in `yuv_lines::Line`: one function would take chroma's offset as
-// `centre * 32768`, and a law would have to join that to `chroma_part`, which speaks of halves.
+// The part of a sample by an offset and a gain, in 65536ths. Chroma's offset is its centre, which is in halves: `chroma_centre * 32768`.
 #[tactic(auto, using(std::proofs::lemmas::Int::ints, crate::proofs::Sizes::gained_fits), unfolding(crate::specs::Yuv::luma_part, crate::specs::Yuv::luma_exact))]
-fn scaled_luma(set: LegalSet, luma: u8) -> i64
-    ensures is { result ≡ luma_part set.numbers.luma_offset set.numbers.luma_gain luma }
+fn scaled(sample: u8, offset: u32, gain: u32) -> i64
+    requires { (offset ≤ 8388608) × (gain ≤ 262143) }
+    ensures is { result ≡ luma_part offset gain sample }
     ensures small { unsigned_abs result ≤ 140737488355328 }
 {
-    let offset = set.numbers.luma_offset;
-    let gain = set.numbers.luma_gain;
-    ((luma as i64 * 65536 - offset as i64) * gain as i64) >> 16
-}
-
-// The part of U or V by one gain, in 65536ths.
-#[tactic(auto, using(std::proofs::lemmas::Int::ints, crate::proofs::Sizes::gained_fits), unfolding(crate::specs::Yuv::chroma_part, crate::specs::Yuv::chroma_exact))]
-fn scaled_chroma(sample: u8, centre: u32, gain: u32) -> i64
-    requires { (centre ≤ 256) × (gain ≤ 262143) }
-    ensures is { result ≡ chroma_part centre gain sample }
-    ensures small { unsigned_abs result ≤ 140737488355328 }
-{
-    ((sample as i64 * 2 - centre as i64) * 32768 * gain as i64) >> 16
+    ((sample as i64 * 65536 - offset as i64) * gain as i64) >> 16
 }
 
 // The nearest byte to a channel in 65536ths. In 64 bits, for the products of any legal set: `yuv_parts::to8` is the same in 32, which the
@@ -67,11 +55,12 @@ pub fn convert_with_set(set: LegalSet, luma: u8, cb: u8, cr: u8) -> Rgb
     ensures near { RgbNear set_unit set_slack (red_exact set.numbers luma cb cr) (green_exact set.numbers luma cb cr) (blue_exact set.numbers luma cb cr) result }
 {
     let numbers = set.numbers;
-    let l = scaled_luma(set, luma);
-    let rv = scaled_chroma(cr, numbers.chroma_centre, numbers.v_to_red);
-    let gu = scaled_chroma(cb, numbers.chroma_centre, numbers.u_to_green);
-    let gv = scaled_chroma(cr, numbers.chroma_centre, numbers.v_to_green);
-    let bu = scaled_chroma(cb, numbers.chroma_centre, numbers.u_to_blue);
+    let centre = numbers.chroma_centre * 32768;
+    let l = scaled(luma, numbers.luma_offset, numbers.luma_gain);
+    let rv = scaled(cr, centre, numbers.v_to_red);
+    let gu = scaled(cb, centre, numbers.u_to_green);
+    let gv = scaled(cr, centre, numbers.v_to_green);
+    let bu = scaled(cb, centre, numbers.u_to_blue);
     let r = to8(l + rv);
     let g = to8(l - gu - gv);
     let b = to8(l + bu);

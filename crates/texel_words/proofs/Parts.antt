@@ -1,11 +1,9 @@
--- The parts of a word, each shifted onto bits that are clear. Assumes nothing.
-use Rattle.std.proofs.Common.{◌≡◌, ap, ap₂, ◌∙◌, subst, ℕ, ◌+◌, ◌*◌, ◌/◌, ◌%◌, ◌^◌, ◌≤◌, ◌<◌, bit_and, bit_or, arith}
-use Rattle.std.proofs.lemmas.Nat.{and_mask}
+-- The parts of a word of 16 bits, each shifted onto bits that are clear. Assumes nothing.
+use Rattle.std.proofs.Common.{◌≡◌, ap, ◌∙◌, subst, ℕ, ◌+◌, ◌*◌, ◌%◌, ◌^◌, ◌≤◌, ◌<◌, bit_or, arith}
 use Rattle.formats.specs.Packing.{join_lt}
 use Rattle.channels.specs.Expansion.{truncated, truncates}
-use Rattle.texels.specs.Words.{onto, part_onto}
+use Rattle.texels.specs.Words.{part_onto}
 
--- ---- on a word of 16 bits
 -- five, six and five bits
 pub parts_565 : (r g b : ℕ) → r < 32 → g < 64 → b < 32 → bit_or (r * 2048 % 65536) (bit_or (g * 32 % 65536) b) ≡ r * 2048 + (g * 32 + b)
 parts_565 r g b h i j =
@@ -29,15 +27,3 @@ pub parts_argb : (n k a r g b : ℕ) → n ≤ 8 → k ≤ 8 → n + 3 * k ≤ 1
 parts_argb n k a r g b n8 k8 f ha hr hg hb =
     parts_of_widths n k (truncated n a) (truncated k r) (truncated k g) (truncated k b) f
     (truncates n n8 a ha).code (truncates k k8 r hr).code (truncates k k8 g hg).code (truncates k k8 b hb).code
-
--- ---- on a word of 32 bits
--- the top five, six and five bits of three bytes
-pub parts_of_bytes : (v : ℕ)
-    → bit_or (bit_and (v / 524288) 31 * 2048 % 4294967296) (bit_or (bit_and (v / 1024) 63 * 32 % 4294967296) (bit_and (v / 8) 31)) ≡ v / 524288 % 32 * 2048 + (v / 1024 % 64 * 32 + v / 8 % 32)
-parts_of_bytes v =
-    let r = v / 524288 % 32 in
-    let g = v / 1024 % 64 in
-    let b = v / 8 % 32 in
-    ap₂ (λ x y. bit_or (x * 2048 % 4294967296) y) (and_mask (v / 524288) 5) (ap₂ (λ x y. bit_or (x * 32 % 4294967296) y) (and_mask (v / 1024) 6) (and_mask (v / 8) 5))
-    ∙ ap (λ x. bit_or (r * 2048 % 4294967296) x) (onto 32 g 6 5 b (omega arith) (omega arith) (omega arith))
-    ∙ onto 32 r 5 11 (g * 32 + b) (omega arith) (omega arith) (omega arith)

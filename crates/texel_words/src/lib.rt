@@ -141,27 +141,11 @@ pub fn read_word(format: LaneSource, px: &[u8]) -> u32
     encode_a8r8g8b8(texels::decode_pixel(format, px))
 }
 
-// The R5G6B5 word of a word's texel: the top bits of each lane in the word's own 32 bits. Another way than `encode_r5g6b5`, which goes
-// through bytes and words of sixteen: 0.35 ns a texel for 0.39 (docs/DECISIONS.md).
-#[tactic(auto, using(crate::proofs::Parts::parts_of_bytes, texels::proofs::Lanes::expanded_byte), unfolding(texels::specs::Texels::decoded_of, texels::specs::Texels::encoded_of, texels::specs::Texels::colour_of, formats::specs::Table::lane_of, formats::specs::Table::parts_of, channels::specs::Expansion::truncated))]
-fn word_r5g6b5(word: u32) -> u16
-    ensures { result ≡ encoded_of R5G6B5 (decoded_of A8R8G8B8 word) }
-{
-    let r5 = (word >> 19) & 0x1f;
-    let g6 = (word >> 10) & 0x3f;
-    let b5 = (word >> 3) & 0x1f;
-    ((r5 << 11) | ((g6 << 5) | b5)) as u16
-}
-
-// The bytes of a word's texel at the front of `out`, in one of the RGB formats. The match is for the one format with a shorter way; a
-// length is asked for, as above.
+// The bytes of a word's texel at the front of `out`, in one of the RGB formats. A length is asked for, as above.
 #[tactic(auto, unfolding(texels::specs::Texels::encoded_bytes, formats::specs::Table::bytes_of, formats::specs::Table::parts_of))]
 pub fn write_word(format: RgbFormat, word: u32, out: &mut [u8])
     requires { bytes_of (rgb_code format) ≤ length out.old }
     ensures { out.new ≡ sets out.old 0 (encoded_bytes (rgb_code format) (decoded_of A8R8G8B8 word)) }
 {
-    match format {
-        RgbFormat::R5G6B5 => words::put16(out, word_r5g6b5(word)),
-        _ => encode_rgb_pixel(format, texels::decode_a8r8g8b8(word), out),
-    }
+    encode_rgb_pixel(format, texels::decode_a8r8g8b8(word), out);
 }

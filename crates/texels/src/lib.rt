@@ -30,6 +30,18 @@ impl Texel {
     {
         Texel { a: 0xff, ..self }
     }
+
+    // Grey: one byte for the three colours.
+    fn grey(l: u8, a: u8) -> Texel
+        ensures { result ≡ record { r = l; g = l; b = l; a = a } }
+    {
+        Texel {
+            r: l,
+            g: l,
+            b: l,
+            a,
+        }
+    }
 }
 
 // ---- decoding: a texel's word, by its format
@@ -106,24 +118,14 @@ fn decode_x8b8g8r8(v: u32) -> Texel
 fn decode_l8(v: u8) -> Texel
     ensures { result ≡ decoded_of L8 v }
 {
-    Texel {
-        r: v,
-        g: v,
-        b: v,
-        a: 0xff,
-    }
+    Texel::grey(v, 0xff)
 }
 
 fn decode_a8l8(v: u16) -> Texel
     ensures { result ≡ decoded_of A8L8 v }
 {
     let [l, a] = v.to_le_bytes();
-    Texel {
-        r: l,
-        g: l,
-        b: l,
-        a,
-    }
+    Texel::grey(l, a)
 }
 
 // The lower half of a word, a 16-bit code, as the nearest byte.
@@ -171,13 +173,7 @@ fn decode_g16r16(v: u32) -> Texel
 fn decode_l16(v: u16) -> Texel
     ensures { result ≡ decoded_of L16 v }
 {
-    let l = channels::unorm16_to_unorm8(v);
-    Texel {
-        r: l,
-        g: l,
-        b: l,
-        a: 0xff, // L16 has no alpha
-    }
+    Texel::grey(channels::unorm16_to_unorm8(v), 0xff) // L16 has no alpha
 }
 
 fn decode_v8u8(v: u16) -> Texel

@@ -17,7 +17,8 @@ pub both_right : (a b : Bool) → T (both a b) → T b
 both_right true b t = t
 both_right false b t = absurd t
 
--- the test passes at every number below m
+-- the test passes at every number below m. Iterate's `all` says it too, and stays folded, since definitions cite it; this is an
+-- abbreviation, so that the checker computes it wherever a proof says `tt`
 abbrev pub every_below : (ℕ → Bool) → ℕ → Bool
 every_below t zero = true
 every_below t (suc m) = both (t m) (every_below t m)

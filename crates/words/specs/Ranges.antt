@@ -1,8 +1,9 @@
 -- Between which bounds an integer lies, through sums, differences, products and quotients. Assumes nothing.
-use Rattle.std.specs.Prelude.{ℕ, ◌+◌, ◌*◌, ◌<◌, ◌≤◌, ℤ, pos, negsuc, ◌+ℤ◌, ◌-ℤ◌, ◌*ℤ◌, T, leb, ltb}
+use Rattle.std.specs.Prelude.{ℕ, ◌+◌, ◌*◌, ◌^◌, ◌<◌, ◌≤◌, ℤ, pos, negsuc, ◌+ℤ◌, ◌-ℤ◌, ◌*ℤ◌, T, leb, ltb}
 use Rattle.std.proofs.Common.{arith, le_trans, lt_of_le_of_lt, div-le_self, leb→le, ltb→lt, SFits}
 use Rattle.std.specs.Int.Signed.{mag}
-use Rattle.std.specs.Int.{w64}
+use Rattle.std.specs.Int.{Width}
+use mir.Val.{hbits}
 use Rattle.words.specs.Machine.{fit}
 use Rattle.words.specs.Integers.{floor_div, up, dn, up_pos, dn_pos, up_le, dn_le, sum, difference, times_small, mag_below}
 
@@ -43,9 +44,9 @@ less {a} {b} {c} {d} {x} {y} w v = record {
   high = up_le (x -ℤ y) (dn x + up y) (b + c) (omega (arith, difference x y, w.high, v.low));
 }
 
--- what lies within numerals fits 64 bits
-pub small : {a b : ℕ} {z : ℤ} → Within a b z → T (leb a 9223372036854775808) → T (ltb b 9223372036854775808) → SFits w64 z
-small {a} {b} {z} w s t = fit z (lt_of_le_of_lt w.high (ltb→lt b _ t)) (le_trans w.low (leb→le a _ s))
+-- what lies within numerals fits a width
+pub small : {w : Width} {a b : ℕ} {z : ℤ} → Within a b z → T (leb a (2 ^ hbits w)) → T (ltb b (2 ^ hbits w)) → SFits w z
+small {a = a} {b = b} {z = z} r s t = fit z (lt_of_le_of_lt r.high (ltb→lt b _ t)) (le_trans r.low (leb→le a _ s))
 
 pub of_pos : (n : ℕ) → Within 0 n (pos n)
 of_pos n = record { low = omega (arith, dn_pos n); high = omega (arith, up_pos n) }

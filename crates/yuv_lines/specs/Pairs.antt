@@ -1,5 +1,5 @@
 -- The words of two texels that share their chroma, by the lines of a set. Assumes nothing.
-use Rattle.std.specs.Prelude.{◌≡◌, ℕ, ◌≤◌}
+use Rattle.std.specs.Prelude.{◌≡◌, ℕ, ◌*◌, ◌≤◌}
 use Rattle.std.proofs.Common.{sym, ◌∙◌}
 use Rattle.formats.specs.Codes.{A8R8G8B8}
 use Rattle.texels.specs.Texels.{encoded_of}
@@ -8,7 +8,7 @@ use Rattle.yuv_sets.specs.Legal.{Legal}
 use Rattle.stretch_rect.specs.declared.Rgb.{Rgb}
 use Rattle.stretch_rect.specs.Yuv.{rgb_of}
 use Rattle.yuv_parts.specs.Parts.{joined, joined_set}
-use Rattle.yuv_parts.specs.Lines.{luma_base_of, chroma_base_of, on_line, luma_line, chroma_line, luma_base_small, chroma_base_small}
+use Rattle.yuv_parts.specs.Lines.{luma_base_of, chroma_base_of, chroma_base_is, on_line, luma_line, chroma_line, luma_base_small, chroma_base_small}
 use Rattle.regions.specs.Regions.{opaque_of}
 use Rattle.yuv_lines.specs.Sizes.{LineSized, Sized}
 use Rattle.yuv_lines.specs.declared.Line.{Line}
@@ -23,6 +23,10 @@ luma_of o g = record { gain = g; base = luma_base_of o g }
 -- that of chroma by one gain
 abbrev pub chroma_of : (centre gain : ℕ) → Line
 chroma_of n g = record { gain = g; base = chroma_base_of n g }
+
+-- which is that of luma whose offset is the centre in 65536ths
+pub chroma_is : (n g : ℕ) → chroma_of n g ≡ luma_of (n * 32768) g
+chroma_is n g = λ i. record { gain = g; base = chroma_base_is n g i }
 
 -- the lines of a set
 unfoldable pub lines_of : YuvSet → Lines

@@ -10,21 +10,33 @@ ghost use Rattle.stretch_rect.specs.Yuv.{rgb_of};
 ghost use Rattle.yuv_parts.specs.Parts.{PartSize, joined};
 ghost use Rattle.yuv_parts.specs.Lines.{on_line};
 ghost use Rattle.regions.specs.Regions.{opaque_of};
-ghost use Rattle.yuv_lines.specs.Sizes.{LineSized};
-ghost use Rattle.yuv_lines.specs.Pairs.{luma_of, chroma_of, lines_of, rgb_on, pair_on};
+ghost use Rattle.yuv_lines.specs.Pairs.{luma_of, lines_of, rgb_on, pair_on};
 
+use std::marker::Model;
 use yuv_parts::Parts;
 use yuv_sets::LegalSet;
 
-mod sized;
-
-pub use sized::SizedLines;
-
-// A line: its gain, and the base that is taken from the product.
+// A line: its gain, and the base that is taken from the product. 32 bits have room for the part of every sample. That is the invariant of a
+// model and no ghost field: the definitions make a line of any two numbers (`luma_of`, `lines_of`), and a value with a ghost field holds its
+// proof, and the lines of an illegal set have none.
 #[derive(Clone, Copy)]
 pub struct Line {
     pub gain: u32,
     pub base: u32,
+}
+
+impl Model for Line {
+    ghost use Rattle.yuv_lines.specs.Numbers.{LineNumbers};
+
+    ghost Value = { LineNumbers };
+
+    ghost use Rattle.yuv_lines.specs.Sizes.{LineSized};
+
+    ghost view = { λ l. record { gain = l.gain; base = l.base } };
+
+    ghost invariant = { λ l. LineSized (record { gain = l.gain; base = l.base }) };
+
+    ghost inverse = { λ n. record { gain = n.gain; base = n.base } };
 }
 
 // The line of each part. `yuv_parts::Parts` has the same five fields and stays a struct of its own: no function makes the one out of the other
@@ -55,33 +67,19 @@ pub struct Pair {
 }
 
 impl Line {
-    // The line of luma. Two, as `stretch_rect::scaled_luma` and `scaled_chroma` are (line there).
-    #[tactic(auto, using(yuv_parts::specs::Lines::luma_base_small), unfolding(yuv_parts::specs::Lines::luma_base_of))]
-    fn luma(set: LegalSet) -> Line
-        ensures is { result ≡ luma_of set.numbers.luma_offset set.numbers.luma_gain }
-        ensures sized { LineSized result }
+    // The line of an offset, in 65536ths, and a gain. Chroma's offset is its centre, which is in halves: `chroma_centre * 32768`.
+    #[tactic(auto, using(yuv_parts::specs::Lines::base_small), unfolding(yuv_parts::specs::Lines::luma_base_of))]
+    fn of(offset: u32, gain: u32) -> Line
+        requires { (offset ≤ 8388608) × (gain ≤ 262143) }
+        ensures { result ≡ luma_of offset gain }
     {
-        let offset = set.numbers.luma_offset;
-        let gain = set.numbers.luma_gain;
         let base = ((offset as u64 * gain as u64 + 65535) / 65536) as u32;
-        Line { gain, base }
-    }
-
-    // The line of chroma by one gain.
-    #[tactic(auto, using(yuv_parts::specs::Lines::chroma_base_small), unfolding(yuv_parts::specs::Lines::chroma_base_of))]
-    fn chroma(centre: u32, gain: u32) -> Line
-        requires { (centre ≤ 256) × (gain ≤ 262143) }
-        ensures is { result ≡ chroma_of centre gain }
-        ensures sized { LineSized result }
-    {
-        let base = (centre * gain + 1) / 2;
         Line { gain, base }
     }
 
     // The part of a sample.
     #[tactic(auto, using(std::proofs::lemmas::Int::ints, crate::proofs::Sampled::sampled_fits, yuv_parts::specs::Lines::line_small))]
     fn part(self, sample: u8) -> i32
-        requires { LineSized self }
         ensures is { result ≡ on_line self.gain self.base sample }
         ensures small { PartSize result }
     {
@@ -89,22 +87,20 @@ impl Line {
     }
 }
 
-// The lines of a legal set. No From, which keeps what it takes: bases are rounded.
-#[tactic(auto, using(crate::specs::Pairs::set_lines), unfolding(crate::specs::Pairs::lines_of))]
-pub fn lines_of(set: LegalSet) -> SizedLines
-    ensures is { result.lines ≡ lines_of set.numbers }
-    ensures colours { (y u v : ℕ) → rgb_on result.lines y u v ≡ rgb_of set.numbers y u v }
+// The lines of a legal set. No From: a From loses nothing, and bases are rounded.
+pub fn lines_of(set: LegalSet) -> Lines
+    ensures is { result ≡ lines_of set.numbers }
+    ensures colours { (y u v : ℕ) → rgb_on result y u v ≡ rgb_of set.numbers y u v }
 {
     let numbers = set.numbers;
-    let centre = numbers.chroma_centre;
-    let lines = Lines {
-        luma: Line::luma(set),
-        v_red: Line::chroma(centre, numbers.v_to_red),
-        u_green: Line::chroma(centre, numbers.u_to_green),
-        v_green: Line::chroma(centre, numbers.v_to_green),
-        u_blue: Line::chroma(centre, numbers.u_to_blue),
-    };
-    SizedLines { lines }
+    let centre = numbers.chroma_centre * 32768;
+    Lines {
+        luma: Line::of(numbers.luma_offset, numbers.luma_gain),
+        v_red: Line::of(centre, numbers.v_to_red),
+        u_green: Line::of(centre, numbers.u_to_green),
+        v_green: Line::of(centre, numbers.v_to_green),
+        u_blue: Line::of(centre, numbers.u_to_blue),
+    }
 }
 
 // The A8R8G8B8 word of the colour that five parts make.
@@ -114,12 +110,12 @@ fn word_of(parts: Parts) -> u32
     texel_words::encode_a8r8g8b8(regions::opaque(parts.colour()))
 }
 
-// The words of two texels. What their chroma adds to each is worked out once.
+// The words of two texels. What their chroma adds to each is worked out once. Lines are lent here and to `yuv_pairs::read_pairs`, which are
+// called in loops: the check does not cover a loop that passes on by value what holds a model ("two branches join"; tried).
 #[tactic(auto, using(std::proofs::lemmas::Int::ints), unfolding(crate::specs::Pairs::pair_on, crate::specs::Pairs::rgb_on))]
-pub fn pair_words(lines: SizedLines, s: Samples) -> Pair
-    ensures { result ≡ pair_on lines.lines s }
+pub fn pair_words(lines: &Lines, s: Samples) -> Pair
+    ensures { result ≡ pair_on lines.now s }
 {
-    let lines = lines.lines;
     let v_red = lines.v_red.part(s.v);
     let u_green = lines.u_green.part(s.u);
     let v_green = lines.v_green.part(s.v);

@@ -19,7 +19,7 @@ use convert_reply::{RegionRow, YuvSource};
 use formats::{PackedYuv, PlanarYuv, RgbFormat, YuvFormat};
 use places::{Pitches, Spot};
 use planar_yuv::PlanarTexel;
-use yuv_lines::SizedLines;
+use yuv_lines::Lines;
 use yuv_pairs::PairPlaces;
 
 // Where the samples of the pair in the macropixel lie that starts at a byte.
@@ -87,11 +87,11 @@ fn write_pairs(
     first_to: usize,
     src: &[u8],
     first: PairPlaces,
-    lines: SizedLines,
+    lines: Lines,
     pairs: usize,
 )
     requires { PlacesIn (length src.now) first pairs × (first_to + 2 * pairs * bytes_of (rgb_code dst_format) ≤ length dst.old) }
-    ensures { dst.new ≡ iterate (word_written (run_from lines.lines src.now first) (rgb_code dst_format) first_to) (2 * pairs) dst.old }
+    ensures { dst.new ≡ iterate (word_written (run_from lines src.now first) (rgb_code dst_format) first_to) (2 * pairs) dst.old }
 {
     let mut block = [0u32; 64];
     let mut at = first;
@@ -99,7 +99,7 @@ fn write_pairs(
     for done in (0..pairs).step_by(32) {
         let n = (pairs - done).min(32);
         let words = &mut block[..2 * n];
-        yuv_pairs::read_pairs(words, src, at, lines);
+        yuv_pairs::read_pairs(words, src, at, &lines);
         to = blocks::write_texels(words, dst, dst_format, to);
         at = at.after(n);
     }

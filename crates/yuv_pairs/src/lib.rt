@@ -8,7 +8,7 @@ ghost use Rattle.blocks.specs.Blocks.{TexelsIn};
 ghost use Rattle.yuv_pairs.specs.Gathered.{two_bytes, Gathered, Coloured, PairsRead};
 ghost use Rattle.yuv_pairs.specs.Places.{format_of, luma_at, u_at, v_at, PlacesIn, LumasGathered, ChromasGathered, HasAfter, After};
 
-use yuv_lines::{Samples, SizedLines};
+use yuv_lines::{Lines, Samples};
 
 // ---- places
 
@@ -66,8 +66,8 @@ fn packed_word(m: u32, p: u32) -> u16
     requires { p ≤ 1 }
     ensures { result ≡ two_bytes m p }
 {
-    let t = m >> (8 * p);
-    (t % 256 + t / 65536 % 256 * 256) as u16
+    let [first, _, second, _] = (m >> (8 * p)).to_le_bytes();
+    u16::from_le_bytes([first, second])
 }
 
 // Bytes p and p + 2 of macropixels.
@@ -104,8 +104,12 @@ fn gather_planes(out: &mut [u16], src: &[u8], first: usize, second: usize)
 // Lumas and chromas change places between the two packed formats, so neither of these is the other with another constant. They match, since
 // each variant holds places of its own, which another gather takes.
 
-// That the samples lie within the source (`PlacesIn`, and `TexelsIn` of a gather) is asked of the caller: it speaks of the length of what is lent, and of as many pairs
-// as there is room for in what is written. A type that held the source and its places would leave the second half to be asked.
+// That the samples lie within the source (`PlacesIn`, and `TexelsIn` of a gather) is asked of the caller: it speaks of the length of what is
+// lent, and of as many pairs as there is room for in what is written. A type that held the source and its places would leave the second
+// half to be asked.
+
+// The proofs of both have the same two lines, that a packed format's macropixels lie within the source, by `yuy2_in` and `uyvy_in`: named
+// on the function instead, these were not found by the check (tried, with a clause of its own for it too).
 
 // The lumas of pairs, the first of which lies at `at`.
 #[tactic(auto, using(crate::proofs::Variants::yuy2_lumas, crate::proofs::Variants::uyvy_lumas, crate::proofs::Variants::yv12_lumas, crate::proofs::Variants::nv12_lumas))]
@@ -141,9 +145,9 @@ fn gather_chromas(chromas: &mut [u16], src: &[u8], at: PairPlaces)
 // proof learns anything. Lumas and chromas are two arrays, since a word of either is gathered by the same loops: in one array of samples
 // each of these would stand twice, once for two lumas and once for U and V.
 #[tactic(auto, using(crate::specs::Gathered::colour_more, crate::proofs::Bytes::low, crate::proofs::Bytes::high), unfolding(yuv_lines::specs::Pairs::pair_on, crate::specs::Gathered::word_on))]
-fn colour_pairs(block: &mut [u32], lumas: &[u16], chromas: &[u16], lines: SizedLines)
+fn colour_pairs(block: &mut [u32], lumas: &[u16], chromas: &[u16], lines: Lines)
     requires { (2 * length lumas.now ≤ length block.old) × (length lumas.now ≤ length chromas.now) }
-    ensures { Coloured lines.lines lumas.now chromas.now (length lumas.now) block.old block.new }
+    ensures { Coloured lines lumas.now chromas.now (length lumas.now) block.old block.new }
 {
     for i in 0..lumas.len() {
         let [first, second] = lumas[i].to_le_bytes();
@@ -154,16 +158,16 @@ fn colour_pairs(block: &mut [u32], lumas: &[u16], chromas: &[u16], lines: SizedL
             u,
             v,
         };
-        let pair = yuv_lines::pair_words(lines, samples);
+        let pair = yuv_lines::pair_words(&lines, samples);
         block[2 * i] = pair.first;
         block[2 * i + 1] = pair.second;
     }
 }
 
 // The words of as many pairs as `block` has room for, at most 32; the first pair's samples lie at `at`.
-pub fn read_pairs(block: &mut [u32], src: &[u8], at: PairPlaces, lines: SizedLines)
+pub fn read_pairs(block: &mut [u32], src: &[u8], at: PairPlaces, lines: &Lines)
     requires { (length block.old / 2 ≤ 32) × PlacesIn (length src.now) at (length block.old / 2) }
-    ensures { PairsRead lines.lines src.now (format_of at) (luma_at at) (u_at at) (v_at at) (length block.old / 2) block.old block.new }
+    ensures { PairsRead lines.now src.now (format_of at) (luma_at at) (u_at at) (v_at at) (length block.old / 2) block.old block.new }
 {
     let mut lumas = [0u16; 32];
     let mut chromas = [0u16; 32];
@@ -171,5 +175,5 @@ pub fn read_pairs(block: &mut [u32], src: &[u8], at: PairPlaces, lines: SizedLin
     let chromas = &mut chromas[..block.len() / 2];
     gather_lumas(lumas, src, at);
     gather_chromas(chromas, src, at);
-    colour_pairs(block, lumas, chromas, lines);
+    colour_pairs(block, lumas, chromas, *lines);
 }

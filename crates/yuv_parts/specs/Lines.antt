@@ -3,9 +3,10 @@
 -- Assumes nothing.
 use Rattle.std.specs.Prelude.{◌≡◌, ℕ, ◌+◌, ◌*◌, ◌/◌, ◌≤◌, ◌<◌, ℤ, pos, negsuc, ◌-ℤ◌, ◌*ℤ◌}
 use Rattle.std.proofs.Common.{sym, ap, ◌∙◌, ⊎_elim, arith, mul_assoc, mul_comm, mul-le-mul, lit<}
-use Rattle.words.specs.Integers.{floor_div, up, dn, up_pos, dn_pos, one_zero, difference, times_up, times_dn, floor_low, floor_high, scaled_difference}
+use Rattle.words.specs.Integers.{floor_div, up, dn, up_pos, dn_pos, one_zero, difference, floor_low, floor_high, scaled_difference}
 use Rattle.std.proofs.lemmas.Int.{ints}
-use Rattle.stretch_rect.specs.Yuv.{luma_part, chroma_part, luma_exact, chroma_exact}
+use Rattle.stretch_rect.specs.Yuv.{luma_part, chroma_part, luma_exact}
+use Rattle.stretch_rect.proofs.PartLaws.{chroma_part_is}
 use Rattle.yuv_parts.specs.Parts.{PartSize}
 
 -- the base of luma: offset times gain, rounded up to 65536ths
@@ -46,24 +47,27 @@ luma_line o g y =
     let swap : y * 65536 * g ≡ y * g * 65536 = mul_assoc y 65536 g ∙ ap (λ n. y * n) (mul_comm 65536 g) ∙ sym (mul_assoc y g 65536) in
     floor_line ((pos (y * 65536) -ℤ pos o) *ℤ pos g) (y * g) (o * g) ((o * g + 65535) / 65536) (omega (arith, scaled_difference (y * 65536) o g, swap)) (omega arith) (omega arith)
 
+-- the base of chroma is that of luma whose offset is the centre in 65536ths
+pub chroma_base_is : (n g : ℕ) → chroma_base_of n g ≡ luma_base_of (n * 32768) g
+unfolding chroma_base_of luma_base_of
+chroma_base_is n g =
+    let e : n * 32768 * g ≡ n * g * 32768 = mul_assoc n 32768 g ∙ ap (λ k. n * k) (mul_comm 32768 g) ∙ sym (mul_assoc n g 32768) in
+    omega (arith, e)
+
 pub chroma_line : (n g c : ℕ) → chroma_part n g c ≡ on_line g (chroma_base_of n g) c
-unfolding chroma_part chroma_exact chroma_base_of
-chroma_line n g c =
-    let i = pos (c * 2) -ℤ pos n in
-    let e = scaled_difference (c * 2) n g in
-    let two : c * 2 * g ≡ c * g * 2 = mul_assoc c 2 g ∙ ap (λ k. c * k) (mul_comm 2 g) ∙ sym (mul_assoc c g 2) in
-    let rise : up (i *ℤ pos 32768 *ℤ pos g) ≡ up (i *ℤ pos g) * 32768 = times_up (i *ℤ pos 32768) g ∙ ap (λ k. k * g) (times_up i 32768) ∙ mul_assoc (up i) 32768 g ∙ ap (λ k. up i * k) (mul_comm 32768 g) ∙ sym (mul_assoc (up i) g 32768) ∙ sym (ap (λ k. k * 32768) (times_up i g)) in
-    let fall : dn (i *ℤ pos 32768 *ℤ pos g) ≡ dn (i *ℤ pos g) * 32768 = times_dn (i *ℤ pos 32768) g ∙ ap (λ k. k * g) (times_dn i 32768) ∙ mul_assoc (dn i) 32768 g ∙ ap (λ k. dn i * k) (mul_comm 32768 g) ∙ sym (mul_assoc (dn i) g 32768) ∙ sym (ap (λ k. k * 32768) (times_dn i g)) in
-    floor_line (i *ℤ pos 32768 *ℤ pos g) (c * g) (n * g * 32768) ((n * g + 1) / 2) (omega (arith, e, two, rise, fall)) (omega arith) (omega arith)
+chroma_line n g c = chroma_part_is n g c ∙ luma_line (n * 32768) g c ∙ ap (λ b. on_line g b c) (sym (chroma_base_is n g))
 
 -- ---- how large they are, for bytes and every legal set
-pub luma_base_small : (o g : ℕ) → o ≤ 4194303 → g ≤ 262143 → luma_base_of o g ≤ 67108864
+-- a base, at every offset that luma and chroma have: at most 256 * 32768
+pub base_small : (o g : ℕ) → o ≤ 8388608 → g ≤ 262143 → luma_base_of o g ≤ 67108864
 unfolding luma_base_of
-luma_base_small o g ho hg = omega (arith, mul-le-mul ho hg)
+base_small o g ho hg = omega (arith, mul-le-mul ho hg)
+
+pub luma_base_small : (o g : ℕ) → o ≤ 4194303 → g ≤ 262143 → luma_base_of o g ≤ 67108864
+luma_base_small o g ho hg = base_small o g (omega (arith, ho)) hg
 
 pub chroma_base_small : (n g : ℕ) → n ≤ 256 → g ≤ 262143 → chroma_base_of n g ≤ 67108864
-unfolding chroma_base_of
-chroma_base_small n g hn hg = omega (arith, mul-le-mul hn hg)
+chroma_base_small n g hn hg = omega (arith, chroma_base_is n g, base_small (n * 32768) g (omega (arith, hn)) hg)
 
 pub line_small : (g b c : ℕ) → c < 256 → g ≤ 262143 → b ≤ 67108864 → PartSize (on_line g b c)
 line_small g b c hc hg hb = let l : c ≤ 255 = omega (arith, hc) in omega (arith, ints, mul-le-mul l hg)

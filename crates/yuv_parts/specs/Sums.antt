@@ -5,7 +5,7 @@ use Rattle.std.specs.Int.Signed.{lt_z, non_neg, shr_z}
 use Rattle.std.specs.Int.{Width, int_min, int_max, w8}
 use mir.Val.{hbits}
 use Rattle.words.specs.Integers.{floor_div, clamp_to}
-use Rattle.yuv_parts.specs.Widths.{fit, asks, gives, shifted, kept}
+use Rattle.words.specs.Machine.{fit, asks, gives, shifted, kept}
 use Rattle.words.specs.Ranges.{Within, wider, plus, less, of_pos}
 use Rattle.stretch_rect.specs.declared.Rgb.{Rgb}
 use Rattle.stretch_rect.proofs.Clamps.{clamped}

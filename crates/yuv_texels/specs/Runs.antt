@@ -1,5 +1,5 @@
 -- A run of texels of a row, and that runs make up a row. Assumes nothing.
-use Rattle.std.specs.Prelude.{◌≡◌, List, ℕ, ◌+◌, ◌*◌, ◌-◌, ◌≤◌, ◌<◌}
+use Rattle.std.specs.Prelude.{◌≡◌, List, ℕ, ◌+◌, ◌*◌, ◌-◌, ◌≤◌}
 use Rattle.std.proofs.Common.{sym, ap, ◌∙◌, zero-add, add_assoc, add-mul, mul-le-mul_right, arith}
 use Rattle.std.proofs.lemmas.List.Edits.{sets}
 use Rattle.words.specs.Iterate.{iterate, iterate_add, iterate_same}
@@ -9,6 +9,7 @@ use Rattle.yuv_sets.specs.declared.YuvSet.{YuvSet}
 use Rattle.convert_reply.specs.declared.ConvertRegion.{ConvertRegion}
 use Rattle.texels.specs.declared.Texel.{Texel}
 use Rattle.texels.specs.Texels.{encoded_bytes}
+use Rattle.blocks.specs.Blocks.{Gives}
 use Rattle.regions.specs.Regions.{to_at, source_texel, written, row_written}
 use Rattle.regions.specs.Rows.{RowFits}
 
@@ -43,10 +44,6 @@ run_room n m s d r z row first fits h =
 -- the i-th of some texels, written
 unfoldable pub texel_written : (texel : ℕ → Texel) (d to i : ℕ) → List ℕ → List ℕ
 texel_written texel d to i dst = sets dst (to + i * bytes_of d) (encoded_bytes d (texel i))
-
--- all that may be answered at i is texel i, for each i below n
-abbrev pub Gives : (answer : ℕ → Texel → Type 0) (n : ℕ) (texel : ℕ → Texel) → Type 0
-Gives answer n texel = (i : ℕ) (t : Texel) → i < n → answer i t → t ≡ texel i
 
 -- n answers were written from byte to on, as any texels that the answers must be
 pub record TexelsWritten (answer : ℕ → Texel → Type 0) (d to n : ℕ) (dst out : List ℕ) : Type 0 where

@@ -41,7 +41,7 @@ pub read_texels-from-requires : goal.read_texels-from-requires
 read_texels-from-requires c =
     let l = c.loop-done in
     let p = part_of l.block c.loop-done-test.true c.min-n.ensures l.invariant.block in
-    (p.0, reads c.args.src.now c.requires.0 (lane_source_is c.args.source.format) l.invariant.reached _ p.0 p.1)
+    reads c.args.src.now c.requires.0 (lane_source_is c.args.source.format) l.invariant.reached _ p.0 p.1
 
 pub write_texels-to-requires : goal.write_texels-to-requires
 write_texels-to-requires c =

@@ -1,6 +1,6 @@
-use Rattle.std.specs.Prelude.{◌+◌, ◌*◌}
+use Rattle.std.specs.Prelude.{◌≤◌}
 use Rattle.splat.proofs.Splats.{Done}
 use Rattle.splat.proofs.splat_copies.Given as goal
 
-abbrev pub invariant-loop-turn : goal.invariant-loop-turn
-invariant-loop-turn l = Done l.pixel l.dst (l.back + l.turn * 48)
+abbrev pub invariant-loop-at : goal.invariant-loop-at
+invariant-loop-at l = Done l.pixel l.dst l.at × (l.back ≤ l.at)

@@ -4,7 +4,7 @@ use Rattle.yuv_pair_rows.specs.PairWords.{PairsWritten}
 use Rattle.yuv_pair_rows.proofs.write_pairs.Given as goal
 
 abbrev pub invariant-loop-done : goal.invariant-loop-done
-invariant-loop-done l = PairsWritten l.lines.lines l.src l.initial.at (rgb_code l.dst_format) l.first_to l.initial.dst l.done l.at l.dst l.to × (length l.dst ≡ length l.initial.dst) × (l.done ≤ l.pairs) × (length l.block ≡ 64)
+invariant-loop-done l = PairsWritten l.lines l.src l.initial.at (rgb_code l.dst_format) l.first_to l.initial.dst l.done l.at l.dst l.to × (length l.dst ≡ length l.initial.dst) × (l.done ≤ l.pairs) × (length l.block ≡ 64)
 
 abbrev pub decreases-loop-done : goal.decreases-loop-done
 decreases-loop-done l = l.pairs - l.done

@@ -12,8 +12,8 @@ returns c =
     let full = length-take-le n _ c.requires.0 in
     let lumas = c.gather_lumas.new.lumas in
     let chromas = c.gather_chromas.new.chromas in
-    read_all g.lines.lines g.src.now (format_of at) (luma_at at) (u_at at) (v_at at) n lumas chromas _ _
+    read_all g.lines.now g.src.now (format_of at) (luma_at at) (u_at at) (v_at at) n lumas chromas _ _
     (λ i. omega (arith, c.type_inv.src i))
     (subst (λ k. LumasGathered g.src.now at k lumas) full c.gather_lumas.ensures)
     (subst (λ k. ChromasGathered g.src.now at k chromas) full c.gather_chromas.ensures)
-    (subst (λ k. Coloured g.lines.lines lumas chromas k g.block.now c.colour_pairs.new.block) (c.gather_lumas.auto.lumas ∙ full) c.colour_pairs.ensures)
+    (subst (λ k. Coloured g.lines.now lumas chromas k g.block.now c.colour_pairs.new.block) (c.gather_lumas.auto.lumas ∙ full) c.colour_pairs.ensures)

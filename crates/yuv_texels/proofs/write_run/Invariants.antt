@@ -3,7 +3,8 @@ use Rattle.words.specs.Iterate.{iterate}
 use Rattle.formats.specs.Table.{bytes_of}
 use Rattle.formats.specs.Formats.{rgb_code}
 use Rattle.texels.specs.declared.Texel.{Texel}
-use Rattle.yuv_texels.specs.Runs.{texel_written, Gives}
+use Rattle.blocks.specs.Blocks.{Gives}
+use Rattle.yuv_texels.specs.Runs.{texel_written}
 use Rattle.yuv_texels.proofs.write_run.Given as goal
 
 abbrev pub invariant-loop-i : goal.invariant-loop-i

@@ -8,8 +8,8 @@ use Rattle.depth_texture.proofs.Library.{next_raised}
 use Rattle.depth_texture.proofs.PlaneLayout.new.Goals as goal
 
 -- the test of the unit u
-tested : (a : ℕ) {u : ℕ} {t b : Bool} → u ≡ max 4 a → t ≡ eqb (ones u) 1 → t ≡ b → is_power_of_two (max 4 a) ≡ b
-tested a {u = u} unit e t = ap is_power_of_two (sym unit) ∙ sym (counted u) ∙ sym e ∙ t
+tested : (a : ℕ) {u : ℕ} {t b : Bool} → u ≡ max a 4 → t ≡ eqb (ones u) 1 → t ≡ b → is_power_of_two (max 4 a) ≡ b
+tested a {u = u} greater e t = let unit : max 4 a ≡ u = omega (arith, greater) in ap is_power_of_two unit ∙ sym (counted u) ∙ sym e ∙ t
 
 pub returns-then-width-eq0 : goal.returns-then-width-eq0
 returns-then-width-eq0 c =
@@ -22,14 +22,14 @@ returns-then-width-eq0 c =
 pub returns-then-not-is_power_of_two : goal.returns-then-not-is_power_of_two
 returns-then-not-is_power_of_two c =
     let a = c.args in
-    let unit : c.max-unit.result ≡ max 4 a.alignment = omega (arith, c.max-unit.ensures) in
+    let unit = c.max-unit.ensures in
     no_power a.width a.height a.alignment c.if-width-eq0.false c.if-height-eq0.false
     (tested a.alignment unit c.is_power_of_two.ensures c.if-not-is_power_of_two.true)
 
 pub returns-then-not-planes_fit : goal.returns-then-not-planes_fit
 returns-then-not-planes_fit c =
     let a = c.args in
-    let unit : c.max-unit.result ≡ max 4 a.alignment = omega (arith, c.max-unit.ensures) in
+    let unit = c.max-unit.ensures in
     let d = c.next_multiple_of-depth_pitch in
     let s = c.next_multiple_of-stencil_pitch in
     over a.width a.height a.alignment c.if-width-eq0.false c.if-height-eq0.false (tested a.alignment unit c.is_power_of_two.ensures c.if-not-is_power_of_two.false) d.result s.result
@@ -40,7 +40,7 @@ returns-then-not-planes_fit c =
 pub returns : goal.returns
 returns c =
     let a = c.args in
-    let unit : c.max-unit.result ≡ max 4 a.alignment = omega (arith, c.max-unit.ensures) in
+    let unit = c.max-unit.ensures in
     let d = c.next_multiple_of-depth_pitch in
     let s = c.next_multiple_of-stencil_pitch in
     made a.width a.height a.alignment c.if-width-eq0.false c.if-height-eq0.false (tested a.alignment unit c.is_power_of_two.ensures c.if-not-is_power_of_two.false) d.result s.result

@@ -1,0 +1,11 @@
+-- `yuv_lines::lines_of` meets its contract: each line is that of the definitions. Assumes nothing.
+use Rattle.std.proofs.Common.{ap, ◌∙◌, arith}
+use Rattle.yuv_lines.specs.Pairs.{lines_of, rgb_on, chroma_is, set_lines}
+use Rattle.yuv_lines.proofs.lines_of.Goals as goal
+
+pub returns-clause-is : goal.returns-clause-is
+unfolding lines_of
+returns-clause-is c = grind (arith, chroma_is)
+
+pub returns-clause-colours : goal.returns-clause-colours
+returns-clause-colours c y u v = ap (λ l. rgb_on l y u v) (returns-clause-is c) ∙ set_lines c.args.set.numbers y u v
