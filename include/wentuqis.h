@@ -182,6 +182,11 @@ void wentuqis_d3dcolor_to_rgba_f32(uint32_t color, float rgba[4]);
  * Never refuses. rgb must be initialised memory. */
 void wentuqis_yuv_to_rgb8(uint8_t luma, uint8_t cb, uint8_t cr, uint8_t rgb[3]);
 
+/* The same colour as wentuqis_yuv_to_rgb8, for every sample, by five tables of 256 numbers, which are looked up and added.
+ * docs/BENCHMARKS.md has what a call of either takes.
+ * Never refuses. rgb must be initialised memory. */
+void wentuqis_yuv_to_rgb8_by_tables(uint8_t luma, uint8_t cb, uint8_t cr, uint8_t rgb[3]);
+
 /* layout is width, height, depth pitch, stencil pitch: 4 x width and width raised to a multiple of alignment, which
  * counts as 4 if below. Refusals 6 to 8, with four zeros. layout must be initialised memory. */
 uint32_t wentuqis_plane_layout(uint32_t width, uint32_t height, uint32_t alignment, uint64_t layout[4]);

@@ -1,17 +1,19 @@
 //! Usage: bench [--markdown FILE] [WORD..]
 //! Measures conversions and depth transfers of a 4096 x 2160 frame, conversions of as many texels
-//! in rows of 16, splats of as many 4-byte texels, and as many numbers to binary16, a call for
-//! each, in nanoseconds a texel, on one thread: every work, or those whose name has one of the
-//! words. Among the conversions is every pair of RGB formats, a format to itself too. Each row of
-//! the table is one piece of work and each column a route that does it; `ours`, and its ratio to
-//! the original, stand where the port is linked, and `memcpy` copies as many bytes as the work
-//! writes. The original has no number where it refuses; where ours goes by BT.709, its number is by
-//! BT.601. A number is the median of rounds in which the routes take turns, so that a slow moment
-//! of the machine falls on all of them. Below the table stand the bars whose works were all
+//! in rows of 16, splats of as many 4-byte texels, and as many numbers to binary16 and samples of
+//! YUV, a call for each, in nanoseconds a texel, on one thread: every work, or those whose name has
+//! one of the words. Among the conversions is every pair of RGB formats, a format to itself too,
+//! and every pair of a YUV and an RGB format. Frames are random, but for those of YUV that are
+//! called smooth.
+//! Each row of the table is one piece of work and each column a route that does it; `ours`, and its
+//! ratio to the original, stand where the port is linked, and `memcpy` copies as many bytes as the
+//! work writes. The original has no number where it refuses; where ours goes by BT.709, its number
+//! is by BT.601. A number is the median of rounds in which the routes take turns, so that a slow
+//! moment of the machine falls on all of them. Below the table stand the bars whose works were all
 //! measured: the greatest ratio that is wanted of ours to another route, the worst that was
 //! measured, and of which work. They do not change the exit status. With --markdown all this is
-//! also written to FILE, the RGB pairs as a table of sources and destinations; FILE keeps what it
-//! has from its first line `## ..` on.
+//! also written to FILE, the RGB pairs and those from YUV as tables of sources and destinations;
+//! FILE keeps what it has from its first line `## ..` on.
 
 mod common;
 mod paper;
@@ -33,8 +35,9 @@ use original::{
     convert::{f32_to_f16_bits, splat_pixel_pattern},
     depth_texture::{PackedDepth, PlaneLayout},
     pixel_convert::{ConvertRegion, convert_region},
+    stretch_rect::yuv_to_rgb8,
 };
-use paper::{BT709, FORMATS, Format, Kind, named};
+use paper::{A8R8G8B8, BT709, FORMATS, Format, Kind, Texel, named};
 
 const WIDTH: u32 = 4096;
 const HEIGHT: u32 = 2160;
@@ -54,7 +57,7 @@ const COLUMNS: &[&str] = if cfg!(port) {
     &["original", "memcpy"]
 };
 
-/// What stands of an RGB pair in the markdown.
+/// What stands of a pair of formats in the markdown.
 const PAIR_CELL: &str = if cfg!(port) {
     "ours, and in brackets its ratio to the original"
 } else {
@@ -64,12 +67,8 @@ const PAIR_CELL: &str = if cfg!(port) {
 /// The names of a source and a destination.
 type Pair = (&'static str, &'static str);
 
-/// The conversions of a frame besides those from RGB to RGB.
-const CONVERSIONS: [Pair; 12] = [
-    ("YUY2", "A8R8G8B8"),
-    ("UYVY", "R5G6B5"),
-    ("NV12", "A8R8G8B8"),
-    ("YV12", "X8R8G8B8"),
+/// The conversions of a frame besides those from RGB and YUV to RGB.
+const CONVERSIONS: [Pair; 8] = [
     ("A16B16G16R16", "A8R8G8B8"),
     ("A32B32G32R32F", "A8R8G8B8"),
     ("A2R10G10B10", "A8R8G8B8"),
@@ -84,7 +83,9 @@ const CONVERSIONS: [Pair; 12] = [
 const SET_CONVERSIONS: [Pair; 2] = [("YUY2", "A8R8G8B8"), ("NV12", "A8R8G8B8")];
 
 /// The conversions in short rows.
-const SHORT_CONVERSIONS: [Pair; 10] = [
+const SHORT_CONVERSIONS: [Pair; 12] = [
+    ("YUY2", "A8R8G8B8"),
+    ("UYVY", "R5G6B5"),
     ("A8R8G8B8", "X8R8G8B8"),
     ("A8R8G8B8", "A8B8G8R8"),
     ("A8R8G8B8", "R5G6B5"),
@@ -130,10 +131,10 @@ struct Bar {
     limit: f64,
 }
 
-const BARS: [Bar; 5] = [
+const BARS: [Bar; 8] = [
     Bar {
         works: "every RGB pair",
-        concerns: |work| work.rgb_pair().is_some(),
+        concerns: |work| work.pair_from(rgb_formats()).is_some(),
         route: "original",
         limit: 0.2,
     },
@@ -157,6 +158,24 @@ const BARS: [Bar; 5] = [
         },
         route: "original",
         limit: 0.4,
+    },
+    Bar {
+        works: "YUV to A8R8G8B8, random and smooth",
+        concerns: Work::is_yuv_to_a8r8g8b8,
+        route: "original",
+        limit: 0.3,
+    },
+    Bar {
+        works: "YUV to A8R8G8B8, random and smooth",
+        concerns: Work::is_yuv_to_a8r8g8b8,
+        route: "memcpy",
+        limit: 5.0,
+    },
+    Bar {
+        works: "YUV to the eleven other RGB formats",
+        concerns: |work| work.pair_from(yuv_formats()).is_some() && !work.is_yuv_to_a8r8g8b8(),
+        route: "original",
+        limit: 0.35,
     },
     Bar {
         works: "depth unpack and pack",
@@ -287,6 +306,8 @@ impl Bar {
 enum Work {
     /// From a format to another, in rows of so many texels.
     Convert(&'static Format, &'static Format, u32),
+    /// The same of a smooth frame of YUV.
+    ConvertSmooth(&'static Format, &'static Format),
     /// The same of a frame with BT.709.
     ConvertWithSet(&'static Format, &'static Format),
     /// Of a depth format's name and code.
@@ -295,6 +316,8 @@ enum Work {
     /// Of a pattern of so many bytes.
     Splat(usize),
     Binary16(Fog),
+    /// Samples of YUV, a call for each: by products, or by the port's tables.
+    Samples(bool),
 }
 
 impl Work {
@@ -302,6 +325,7 @@ impl Work {
         match self {
             Self::Convert(from, to, WIDTH) => format!("{} to {}", from.name, to.name),
             Self::Convert(from, to, row) => format!("{} to {}, rows of {row}", from.name, to.name),
+            Self::ConvertSmooth(from, to) => format!("{} to {}, smooth", from.name, to.name),
             Self::ConvertWithSet(from, to) => {
                 format!("{} to {} BT.709, original BT.601", from.name, to.name)
             }
@@ -309,28 +333,50 @@ impl Work {
             Self::Pack(name, _) => format!("{name} pack"),
             Self::Splat(length) => format!("splat of {length}"),
             Self::Binary16((name, _)) => format!("binary16 of {name}"),
+            Self::Samples(false) => "samples of YUV".to_string(),
+            Self::Samples(true) => "samples of YUV by tables".to_string(),
         }
     }
 
     fn measure(&self) -> Numbers {
         match *self {
-            Self::Convert(from, to, row) => convert(from, to, row, None),
-            Self::ConvertWithSet(from, to) => convert(from, to, WIDTH, Some(BT709)),
+            Self::Convert(from, to, row) => convert(&frame(from), from, to, row, None),
+            Self::ConvertSmooth(from, to) => convert(&smooth(from), from, to, WIDTH, None),
+            Self::ConvertWithSet(from, to) => convert(&frame(from), from, to, WIDTH, Some(BT709)),
             Self::Unpack(_, code) => unpack(code),
             Self::Pack(_, code) => pack(code),
             Self::Splat(length) => splat(length),
             Self::Binary16((_, fog)) => binary16(&fog()),
+            Self::Samples(by_tables) => samples(by_tables),
         }
     }
 
-    /// The names of source and destination where a frame goes from RGB to RGB.
-    fn rgb_pair(&self) -> Option<Pair> {
+    /// The names of source and destination where a random frame goes from one of the formats to
+    /// RGB.
+    fn pair_from(&self, mut sources: impl Iterator<Item = &'static Format>) -> Option<Pair> {
         match self {
-            Self::Convert(from, to, WIDTH) if from.kind == Kind::Rgb && to.kind == Kind::Rgb => {
-                Some((from.name, to.name))
-            }
+            Self::Convert(from, to, WIDTH) if to.kind == Kind::Rgb => sources
+                .any(|source| source.code == from.code)
+                .then_some((from.name, to.name)),
             _ => None,
         }
+    }
+
+    /// Whether a frame, random or smooth, goes from YUV to A8R8G8B8.
+    fn is_yuv_to_a8r8g8b8(&self) -> bool {
+        match self {
+            Self::Convert(from, to, WIDTH) | Self::ConvertSmooth(from, to) => {
+                paper::is_yuv(from.code) && to.code == A8R8G8B8
+            }
+            _ => false,
+        }
+    }
+
+    /// Whether the work has a row of its own in the markdown: all but the pairs that a table of
+    /// sources and destinations has, and of these YUV to A8R8G8B8, of which `memcpy` is told too.
+    fn has_row(&self) -> bool {
+        let in_table = self.pair_from(rgb_formats().chain(yuv_formats())).is_some();
+        !in_table || self.is_yuv_to_a8r8g8b8()
     }
 
     /// Whether a frame goes from the source to the destination of one of the pairs.
@@ -344,11 +390,12 @@ fn works() -> Vec<Work> {
     let convert = |(from, to), row| Work::Convert(named(from), named(to), row);
     let with_set = |(from, to)| Work::ConvertWithSet(named(from), named(to));
     let mut works = Vec::new();
-    for from in rgb_formats() {
+    for from in rgb_formats().chain(yuv_formats()) {
         works.extend(rgb_formats().map(|to| Work::Convert(from, to, WIDTH)));
     }
+    works.extend(yuv_formats().map(|from| Work::ConvertSmooth(from, named("A8R8G8B8"))));
     works.extend(CONVERSIONS.map(|pair| convert(pair, WIDTH)));
-    // Without the port the original would do the same work twice.
+    // Without the port the original would do the same work twice, here and with the samples below.
     if cfg!(port) {
         works.extend(SET_CONVERSIONS.map(with_set));
     }
@@ -358,11 +405,19 @@ fn works() -> Vec<Work> {
     }
     works.extend(PATTERNS.map(Work::Splat));
     works.extend(FOGS.map(Work::Binary16));
+    works.push(Work::Samples(false));
+    if cfg!(port) {
+        works.push(Work::Samples(true));
+    }
     works
 }
 
 fn rgb_formats() -> impl Iterator<Item = &'static Format> {
     FORMATS.iter().filter(|format| format.kind == Kind::Rgb)
+}
+
+fn yuv_formats() -> impl Iterator<Item = &'static Format> {
+    FORMATS.iter().filter(|format| paper::is_yuv(format.code))
 }
 
 /// The routes of one work, in the order of COLUMNS; none in the place of one that refuses.
@@ -415,24 +470,52 @@ fn median(times: &mut [u128]) -> Option<f64> {
     Some(counted[counted.len() / 2] as f64 / TEXELS as f64)
 }
 
+/// The bytes of a frame.
+fn frame_length(format: &Format) -> usize {
+    match format.kind {
+        Kind::PlanarYuv => {
+            let (_, [.., total]) = paper::planar_layout(format.code, WIDTH, HEIGHT);
+            total as usize
+        }
+        _ => TEXELS * format.bytes,
+    }
+}
+
 /// A frame of random texels; binary32 channels lie between 0 and 1.
 fn frame(format: &Format) -> Vec<u8> {
     let random = &mut XorShift::seeded();
     match format.kind {
-        Kind::PlanarYuv => {
-            let (_, [.., total]) = paper::planar_layout(format.code, WIDTH, HEIGHT);
-            random_bytes(random, total as usize)
-        }
         Kind::Wide if format.bytes == 16 => random_units(random, TEXELS * 4),
-        _ => random_bytes(random, TEXELS * format.bytes),
+        _ => random_bytes(random, frame_length(format)),
     }
+}
+
+/// A smooth frame of YUV, as a camera sees a wall in slanting light: luma grows from 56 at the top
+/// left to 198 at the bottom right, U from 112 to 143 along a row, V from 112 to 143 down a column.
+/// A sample differs from the next one in its row or column by at most 1, and no channel clamps.
+fn smooth(format: &Format) -> Vec<u8> {
+    let mut frame = vec![0; frame_length(format)];
+    let region = whole_frame(WIDTH, HEIGHT, WIDTH as usize * format.bytes, 0);
+    for (row, column) in (0..HEIGHT).flat_map(|row| (0..WIDTH).map(move |column| (row, column))) {
+        let texel = Texel {
+            slice: 0,
+            row: row.into(),
+            column: column.into(),
+        };
+        let places = paper::sample(&region, format, texel).expect("a texel of YUV");
+        let luma = 56 + 72 * column / WIDTH + 72 * row / HEIGHT;
+        let sample = [luma, 112 + 32 * column / WIDTH, 112 + 32 * row / HEIGHT];
+        for (at, code) in places.into_iter().zip(sample) {
+            frame[at as usize] = code as u8;
+        }
+    }
+    frame
 }
 
 /// Converts a frame's texels that lie in rows of `row`, ours with a set of YUV numbers if one is
 /// given.
 #[cfg_attr(not(port), allow(unused_variables))]
-fn convert(from: &Format, to: &Format, row: u32, set: Option<YuvSet>) -> Numbers {
-    let src = &frame(from);
+fn convert(src: &[u8], from: &Format, to: &Format, row: u32, set: Option<YuvSet>) -> Numbers {
     let width = row as usize;
     let height = (TEXELS / width) as u32;
     let region = whole_frame(row, height, width * from.bytes, width * to.bytes);
@@ -583,6 +666,36 @@ fn binary16(fog: &[f32]) -> Numbers {
     routes.measure(2 * TEXELS)
 }
 
+/// Random samples to red, green and blue; the original has products alone.
+fn samples(by_tables: bool) -> Numbers {
+    let frame = random_bytes(&mut XorShift::seeded(), 3 * TEXELS);
+    let frame = frame.as_slice();
+    let mut colours = vec![[0; 3]; TEXELS];
+    let routes = Routes::original(move || {
+        let samples = black_box(frame).chunks_exact(3);
+        for (rgb, yuv) in black_box(&mut colours).iter_mut().zip(samples) {
+            *rgb = yuv_to_rgb8(yuv[0], yuv[1], yuv[2]).into();
+        }
+    });
+    #[cfg(port)]
+    let routes = {
+        let mut colours = vec![[0; 3]; TEXELS];
+        let call = match by_tables {
+            true => port::yuv_to_rgb8_by_tables,
+            false => port::yuv_to_rgb8,
+        };
+        routes.ours(move || {
+            let samples = black_box(frame).chunks_exact(3);
+            for (rgb, yuv) in black_box(&mut colours).iter_mut().zip(samples) {
+                call(yuv[0], yuv[1], yuv[2], rgb);
+            }
+        })
+    };
+    #[cfg(not(port))]
+    let _ = by_tables;
+    routes.measure(3 * TEXELS)
+}
+
 /// Writes the tables above what `path` has from its first heading of the second rank on.
 fn write_markdown(path: &str, table: &[Row], bars: &[BarRow]) -> std::io::Result<()> {
     let old = fs::read_to_string(path).unwrap_or_default();
@@ -595,24 +708,40 @@ fn write_markdown(path: &str, table: &[Row], bars: &[BarRow]) -> std::io::Result
         TEXELS / SHORT as usize
     );
     let bars = markdown_table(&BAR_COLUMNS, bars.iter().map(|row| row.to_vec()).collect());
-    fs::write(
-        path,
-        text + &matrix(table) + &other_works(table) + &bars + kept,
-    )
+    let pairs = [
+        matrix(
+            table,
+            "From the RGB format of a row to that of a column",
+            rgb_formats,
+        ),
+        matrix(
+            table,
+            "From the YUV format of a row to the RGB format of a column",
+            yuv_formats,
+        ),
+    ];
+    fs::write(path, text + &pairs.concat() + &rows(table) + &bars + kept)
 }
 
-/// The RGB pairs that were measured: a row for each source and a column for each destination.
-fn matrix(table: &[Row]) -> String {
+/// The pairs from these sources to RGB that were measured: a row for each source and a column for
+/// each destination.
+fn matrix<I: Iterator<Item = &'static Format>>(
+    table: &[Row],
+    title: &str,
+    sources: fn() -> I,
+) -> String {
     let cells: HashMap<Pair, String> = table
         .iter()
-        .filter_map(|(work, numbers)| Some((work.rgb_pair()?, pair_cell(numbers))))
+        .filter_map(|(work, numbers)| Some((work.pair_from(sources())?, pair_cell(numbers))))
         .collect();
     if cells.is_empty() {
         return String::new();
     }
-    let names = || rgb_formats().map(|format| format.name);
-    let sources = names().filter(|name| cells.keys().any(|(from, _)| from == name));
-    let destinations: Vec<&'static str> = names()
+    let sources = sources()
+        .map(|format| format.name)
+        .filter(|name| cells.keys().any(|(from, _)| from == name));
+    let destinations: Vec<&'static str> = rgb_formats()
+        .map(|format| format.name)
         .filter(|name| cells.keys().any(|(_, to)| to == name))
         .collect();
     let row = |from| {
@@ -621,7 +750,7 @@ fn matrix(table: &[Row]) -> String {
         [from.to_string()].into_iter().chain(cells).collect()
     };
     let rows = sources.map(row).collect();
-    format!("\nFrom the RGB format of a row to that of a column: {PAIR_CELL}.\n")
+    format!("\n{title}: {PAIR_CELL}.\n")
         + &markdown_table(&[&[""], &destinations[..]].concat(), rows)
 }
 
@@ -635,11 +764,11 @@ fn pair_cell(numbers: &Numbers) -> String {
     }
 }
 
-/// The works that are no RGB pair.
-fn other_works(table: &[Row]) -> String {
+/// The works that have a row of their own.
+fn rows(table: &[Row]) -> String {
     let rows = table
         .iter()
-        .filter(|(work, _)| work.rgb_pair().is_none())
+        .filter(|(work, _)| work.has_row())
         .map(|(work, numbers)| {
             let cells = numbers.iter().map(|it| cell(*it));
             [work.name()].into_iter().chain(cells).collect()

@@ -90,6 +90,15 @@ const fn whose(by_document: bool) -> &'static str {
     }
 }
 
+/// A call of the port that gives red, green and blue of a sample.
+type ColourCall = extern "C" fn(u8, u8, u8, &mut [u8; 3]);
+
+/// These calls by name; the original's `yuv_to_rgb8` answers for each.
+const COLOURS: [(&str, ColourCall); 2] = [
+    ("yuv_to_rgb8", port::yuv_to_rgb8),
+    ("yuv_to_rgb8_by_tables", port::yuv_to_rgb8_by_tables),
+];
+
 /// The port's reply to a conversion that is lent these buffers.
 fn port_reply(call: &ConvertCall, dst: &mut [u8], src: &[u8]) -> u32 {
     let (to, from, region) = (call.dst_format, call.src_format, &call.region);
@@ -499,25 +508,30 @@ impl Checks {
         self.count("f32_to_f16_bits", 0, count);
     }
 
+    /// The colours of these samples, by each of COLOURS.
     pub fn triples(&mut self, triples: impl IntoIterator<Item = [u8; 3]>) {
         let mut count = 0;
-        let mut rgb = self.lent(&[0_u8; 3]);
+        let mut lent = COLOURS.map(|_| self.lent(&[0_u8; 3]));
         for [luma, cb, cr] in triples {
             count += 1;
-            let lent: &mut [u8; 3] = rgb.lend().try_into().expect("three bytes");
             let (r, g, b) = stretch_rect::yuv_to_rgb8(luma, cb, cr);
-            *lent = [!r, !g, !b];
-            port::yuv_to_rgb8(luma, cb, cr, lent);
-            if *lent != [r, g, b] {
-                let line = format!("ours {lent:?}, the original's {:?}", [r, g, b]);
-                let describe = || format!("yuv_to_rgb8: {luma}, {cb}, {cr}");
-                self.found(Findings(vec![line]), describe);
+            for ((name, call), rgb) in COLOURS.iter().zip(&mut lent) {
+                let rgb: &mut [u8; 3] = rgb.lend().try_into().expect("three bytes");
+                *rgb = [!r, !g, !b];
+                call(luma, cb, cr, rgb);
+                if *rgb != [r, g, b] {
+                    let line = format!("ours {rgb:?}, the original's {:?}", [r, g, b]);
+                    let describe = || format!("{name}: {luma}, {cb}, {cr}");
+                    self.found(Findings(vec![line]), describe);
+                }
             }
         }
-        let mut findings = Findings::default();
-        findings.guards("rgb", &rgb);
-        self.count("yuv_to_rgb8", 0, count);
-        self.found(findings, || "yuv_to_rgb8".to_string());
+        for ((name, _), rgb) in COLOURS.iter().zip(&lent) {
+            let mut findings = Findings::default();
+            findings.guards("rgb", rgb);
+            self.count(name, 0, count);
+            self.found(findings, || name.to_string());
+        }
     }
 
     /// Takes in what another run's checks found.

@@ -16,4 +16,5 @@ pub(crate) use ffi::{
     wentuqis_f32_to_f16_bits as f32_to_f16_bits, wentuqis_planar_yuv_layout as planar_yuv_layout,
     wentuqis_planar_yuv_layout_from_pitch as planar_yuv_layout_from_pitch,
     wentuqis_plane_layout as plane_layout, wentuqis_yuv_to_rgb8 as yuv_to_rgb8,
+    wentuqis_yuv_to_rgb8_by_tables as yuv_to_rgb8_by_tables,
 };

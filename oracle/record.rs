@@ -29,7 +29,7 @@ type Sample = Vec<[u32; 3]>;
 /// A call's number and name, and how its records are made.
 type Call = (u32, &'static str, fn(&mut XorShift) -> Sample);
 
-/// The calls; numbers 16 to 28 and 30 are the public calls.
+/// The calls; numbers 16 to 28, 30 and 31 are the public calls.
 const CALLS: [Call; 16] = [
     (1, "expand4", |_| answers(0..16, expand4)),
     (2, "expand5", |_| answers(0..32, expand5)),

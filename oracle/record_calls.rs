@@ -28,7 +28,7 @@ use crate::{
 pub type Call = (u32, &'static str, fn(&mut Recorder));
 
 /// The calls of the file `values`.
-pub const VALUES: [Call; 9] = [
+pub const VALUES: [Call; 10] = [
     (16, "can_convert", |to| codes(to, answers::pair)),
     (17, "can_convert_update", |to| {
         codes(to, pixel_convert::can_convert_update);
@@ -44,6 +44,7 @@ pub const VALUES: [Call; 9] = [
     (22, "d3dcolor_fill_pixel_bytes", fills),
     (23, "f32_to_f16_bits", halves),
     (24, "d3dcolor_to_rgba_f32", colors),
+    (31, "yuv_to_rgb8_by_tables", triples),
 ];
 
 /// The calls of the file `buffers`.

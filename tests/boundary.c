@@ -204,6 +204,8 @@ static void test_numbers(void)
     check(rgba[0] == 0.0f && rgba[1] == 0.2f && rgba[2] == 0.0f && rgba[3] == 1.0f, "d3dcolor_to_rgba_f32");
     wentuqis_yuv_to_rgb8(16, 128, 128, rgb);
     check(rgb[0] == 1 && rgb[1] == 0 && rgb[2] == 1, "yuv_to_rgb8");
+    wentuqis_yuv_to_rgb8_by_tables(235, 128, 128, rgb);
+    check(rgb[0] == 255 && rgb[1] == 254 && rgb[2] == 255, "yuv_to_rgb8_by_tables");
 }
 
 static void test_plane_layout(void)

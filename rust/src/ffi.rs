@@ -21,6 +21,7 @@ unsafe extern "C" {
     pub(crate) safe fn wentuqis_f32_to_f16_bits(bits: u32) -> u16;
     pub(crate) safe fn wentuqis_d3dcolor_to_rgba_f32(color: u32, rgba: &mut [f32; 4]);
     pub(crate) safe fn wentuqis_yuv_to_rgb8(luma: u8, cb: u8, cr: u8, rgb: &mut [u8; 3]);
+    pub(crate) safe fn wentuqis_yuv_to_rgb8_by_tables(luma: u8, cb: u8, cr: u8, rgb: &mut [u8; 3]);
     pub(crate) safe fn wentuqis_plane_layout(
         width: u32,
         height: u32,

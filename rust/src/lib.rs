@@ -14,14 +14,14 @@
 //!
 //! Modules, names, arguments and replies are those of the original, but that six more sources
 //! [convert](pixel_convert), that YUV converts
-//! [by other numbers](pixel_convert::convert_region_with_set) too, and that numbers above 2^-25 and
-//! below 2^-24 are no zeros [in binary16](convert::f32_to_f16_bits). Its callers compile as they are
-//! but for two things: `can_convert`, `can_convert_update` and `planar_yuv_layout` are no `const fn`,
-//! and some `pub` items are left out (`PackedDepth::decode` and `encode`, and what has to do with
-//! Metal); README.md of the repository lists them. Beside each call that can refuse stands a `try_`
-//! form, which answers [`Refused`]: the reason as [`Refusal`], and a text that says what to mend. A
-//! refused call leaves every byte that it was lent, and no call reads or writes outside what it was
-//! lent.
+//! [by other numbers](pixel_convert::convert_region_with_set) too, that a sample of it converts
+//! [by tables](stretch_rect::yuv_to_rgb8_by_tables) too, and that numbers above 2^-25 and below
+//! 2^-24 are no zeros [in binary16](convert::f32_to_f16_bits). Its callers compile as they are but
+//! for two things: `can_convert`, `can_convert_update` and `planar_yuv_layout` are no `const fn`, and
+//! some `pub` items are left out (`PackedDepth::decode` and `encode`, and what has to do with Metal);
+//! README.md of the repository lists them. Beside each call that can refuse stands a `try_` form,
+//! which answers [`Refused`]: the reason as [`Refusal`], and a text that says what to mend. A refused
+//! call leaves every byte that it was lent, and no call reads or writes outside what it was lent.
 //!
 //! The build links the archive from the folder in `WENTUQIS_LIB_DIR`, else from `target/staticlib`
 //! of the repository, where `make library` writes it. It is made for x86-64 Linux.

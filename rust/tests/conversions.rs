@@ -7,7 +7,7 @@ use common::{RGB, TO_A8R8G8B8, but, bytes, converted, refuses, region};
 use wentuqis::Refusal::{DestinationOutside, PlanarShape, SourceOutside, UnsupportedPair};
 use wentuqis::format::*;
 use wentuqis::pixel_convert::{ConvertRegion, can_convert, can_convert_update};
-use wentuqis::stretch_rect::yuv_to_rgb8;
+use wentuqis::stretch_rect::{yuv_to_rgb8, yuv_to_rgb8_by_tables};
 
 /// Every pair that converts: source, its bytes for an even column count, destination, its bytes.
 fn pairs_of_texels() -> impl Iterator<Item = (u32, usize, u32, usize)> {
@@ -194,6 +194,16 @@ fn yuv_lies_within_a_half_and_a_500th() {
         for (byte, exact) in [r, g, b].into_iter().zip(exact) {
             let error = 1_000_000 * i64::from(byte) - exact.clamp(0, 255_000_000);
             assert!(error.abs() <= 502_000, "{y} {u} {v}");
+        }
+    }
+}
+
+#[test]
+fn tables_give_every_sample_the_same_colour() {
+    for (y, u) in (0..=255_u8).flat_map(|y| (0..=255_u8).map(move |u| (y, u))) {
+        for v in 0..=255 {
+            let colour = yuv_to_rgb8(y, u, v);
+            assert_eq!(yuv_to_rgb8_by_tables(y, u, v), colour, "{y} {u} {v}");
         }
     }
 }

@@ -2,7 +2,7 @@
 -- Assumes nothing.
 use Rattle.std.specs.Prelude.{◌≡◌, ◌<◌, ℕ, Result, MatchResult}
 use Rattle.replay.specs.declared.call.Call.{Call}
-use Rattle.replay.specs.declared.call.Call.TheVariants.{Expand4, Expand5, Expand6, Expand1, Truncate4, Truncate5, Truncate6, Truncate1, Luminance, NearestCode, Unorm8ToUnorm16, Unorm16ToUnorm8, F32ToUnorm8, LinearRowPitch, BytesPerTexel, CanConvert, CanConvertUpdate, YuvToRgb8, PlanarYuvLayout, PlanarYuvLayoutFromPitch, PlaneLayout, D3dcolorFillPixelBytes, F32ToF16Bits, D3dcolorToRgbaF32, ConvertRegion, Unpack, Pack, SplatPixelPattern, NearestByte, ConvertRegionWithSet}
+use Rattle.replay.specs.declared.call.Call.TheVariants.{Expand4, Expand5, Expand6, Expand1, Truncate4, Truncate5, Truncate6, Truncate1, Luminance, NearestCode, Unorm8ToUnorm16, Unorm16ToUnorm8, F32ToUnorm8, LinearRowPitch, BytesPerTexel, CanConvert, CanConvertUpdate, YuvToRgb8, PlanarYuvLayout, PlanarYuvLayoutFromPitch, PlaneLayout, D3dcolorFillPixelBytes, F32ToF16Bits, D3dcolorToRgbaF32, ConvertRegion, Unpack, Pack, SplatPixelPattern, NearestByte, ConvertRegionWithSet, YuvToRgb8ByTables}
 use Rattle.replay.specs.declared.call.UnknownCall.{UnknownCall}
 
 -- the number that a call has in the records
@@ -37,8 +37,9 @@ number_of Pack = 27
 number_of SplatPixelPattern = 28
 number_of NearestByte = 29
 number_of ConvertRegionWithSet = 30
+number_of YuvToRgb8ByTables = 31
 
 -- the result is the call with this number, or an error with a number that no call has
 abbrev pub Decodes : ℕ → Result Call UnknownCall → Type 0
 Decodes number r =
-    MatchResult r (λ call. number_of call ≡ number) (λ e. (e.0 ≡ number) × (0 < number → 30 < number))
+    MatchResult r (λ call. number_of call ≡ number) (λ e. (e.0 ≡ number) × (0 < number → 31 < number))

@@ -36,6 +36,7 @@ pub(crate) enum Call {
     Pack,
     SplatPixelPattern,
     ConvertRegionWithSet,
+    YuvToRgb8ByTables,
 }
 
 /// A number that no call has.
@@ -64,7 +65,7 @@ impl Call {
     ];
 
     /// The public calls, in the order in which they are printed.
-    pub(crate) const PUBLIC: [Call; 14] = [
+    pub(crate) const PUBLIC: [Call; 15] = [
         Call::CanConvert,
         Call::CanConvertUpdate,
         Call::YuvToRgb8,
@@ -79,6 +80,7 @@ impl Call {
         Call::Pack,
         Call::SplatPixelPattern,
         Call::ConvertRegionWithSet,
+        Call::YuvToRgb8ByTables,
     ];
 }
 
@@ -87,7 +89,7 @@ impl TryFrom<u32> for Call {
 
     ghost try_from_gives = { Decodes };
 
-    // A match: of a table a proof would have to know each call in its number's place (`Decodes`), thirty entries.
+    // A match: of a table a proof would have to know each call in its number's place (`Decodes`), thirty-one entries.
     fn try_from(number: u32) -> Result<Self, UnknownCall> {
         match number {
             1 => Ok(Call::Expand4),
@@ -120,6 +122,7 @@ impl TryFrom<u32> for Call {
             28 => Ok(Call::SplatPixelPattern),
             29 => Ok(Call::NearestByte),
             30 => Ok(Call::ConvertRegionWithSet),
+            31 => Ok(Call::YuvToRgb8ByTables),
             _ => Err(UnknownCall(number)),
         }
     }
@@ -159,6 +162,7 @@ impl fmt::Display for Call {
             Call::SplatPixelPattern => "splat_pixel_pattern",
             Call::NearestByte => "nearest byte",
             Call::ConvertRegionWithSet => "convert_region_with_set",
+            Call::YuvToRgb8ByTables => "yuv_to_rgb8_by_tables",
         })
     }
 }

@@ -38,7 +38,7 @@ impl fmt::Display for Count {
 /// The counts of all calls, in fixed memory.
 #[derive(Clone, Copy, Default)]
 pub(crate) struct Counts {
-    calls: [Count; 30],
+    calls: [Count; 31],
     others: Count,
 }
 

@@ -30,12 +30,13 @@ fn agrees(call: Call, record: Record<'_, 64>) -> bool {
         Call::D3dcolorFillPixelBytes => d3dcolor_fill_pixel_bytes(record),
         Call::F32ToF16Bits => f32_to_f16_bits(record),
         Call::D3dcolorToRgbaF32 => d3dcolor_to_rgba_f32(record),
+        Call::YuvToRgb8ByTables => yuv_to_rgb8_by_tables(record),
         _ => false,
     }
 }
 
 impl<'a> Record<'a, 64> {
-    /// A parameter of 8 bits. Its place is a literal at each of the three calls, and a type for it would be made of that literal.
+    /// A parameter of 8 bits. Its place is a literal wherever this is called, and a type for it would be made of that literal.
     fn byte(self, place: usize) -> u8
         requires { place < 3 }
     {
@@ -64,6 +65,17 @@ fn can_convert_update(record: Record<'_, 64>) -> bool {
 fn yuv_to_rgb8(record: Record<'_, 64>) -> bool {
     let mut rgb = [0x5a; 3];
     wentuqis::wentuqis_yuv_to_rgb8(record.byte(0), record.byte(1), record.byte(2), &mut rgb);
+    rgb[..] == record.answer()[..3]
+}
+
+fn yuv_to_rgb8_by_tables(record: Record<'_, 64>) -> bool {
+    let mut rgb = [0x5a; 3];
+    wentuqis::wentuqis_yuv_to_rgb8_by_tables(
+        record.byte(0),
+        record.byte(1),
+        record.byte(2),
+        &mut rgb,
+    );
     rgb[..] == record.answer()[..3]
 }
 

@@ -33,8 +33,8 @@ fn scaled(sample: u8, offset: u32, gain: u32) -> i64
     ((sample as i64 * 65536 - offset as i64) * gain as i64) >> 16
 }
 
-// The nearest byte to a channel in 65536ths. In 64 bits, for the products of any legal set: `yuv_parts::to8` is the same in 32, which the
-// entries of its tables have. One function over both types would want a trait of integers with a sum, a shift and a clamp, and the laws
+// The nearest byte to a channel in 65536ths. In 64 bits, for the products of any legal set: `yuv_parts::to8` is the same in 32, for
+// parts that are smaller. One function over both types would want a trait of integers with a sum, a shift and a clamp, and the laws
 // of each.
 #[tactic(auto, using(std::proofs::lemmas::Int::ints, crate::proofs::Clamps::clamped), unfolding(crate::specs::Yuv::nearest_whole))]
 fn to8(channel: i64) -> u8

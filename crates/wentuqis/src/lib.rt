@@ -150,6 +150,15 @@ pub fn wentuqis_yuv_to_rgb8(luma: u8, cb: u8, cr: u8, rgb: &mut [u8; 3])
     *rgb = [p.r, p.g, p.b];
 }
 
+// No refusal: the same colour as `wentuqis_yuv_to_rgb8`, by five tables.
+pub fn wentuqis_yuv_to_rgb8_by_tables(luma: u8, cb: u8, cr: u8, rgb: &mut [u8; 3])
+    ensures is { rgb.new ≡ rgb_list (rgb_of bt601 luma cb cr) }
+    ensures near { RgbNear decimal_unit decimal_slack (red_decimal luma cb cr) (green_decimal luma cb cr) (blue_decimal luma cb cr) (colour_in rgb.new) }
+{
+    let q = yuv_tables::yuv_to_rgb8_by_tables(luma, cb, cr);
+    *rgb = [q.r, q.g, q.b];
+}
+
 // ---- planar layouts
 
 // Refusal 14. The values are pitch, luma rows, chroma rows and total bytes.

@@ -1,16 +1,14 @@
 -- The words of two texels that share their chroma, by the lines of a set. Assumes nothing.
-use Rattle.std.specs.Prelude.{◌≡◌, ℕ, ◌*◌, ◌≤◌}
+use Rattle.std.specs.Prelude.{◌≡◌, ℕ, ◌*◌, neg_ℤ}
 use Rattle.std.proofs.Common.{sym, ◌∙◌}
 use Rattle.formats.specs.Codes.{A8R8G8B8}
 use Rattle.texels.specs.Texels.{encoded_of}
 use Rattle.yuv_sets.specs.declared.YuvSet.{YuvSet}
-use Rattle.yuv_sets.specs.Legal.{Legal}
 use Rattle.stretch_rect.specs.declared.Rgb.{Rgb}
 use Rattle.stretch_rect.specs.Yuv.{rgb_of}
 use Rattle.yuv_parts.specs.Parts.{joined, joined_set}
-use Rattle.yuv_parts.specs.Lines.{luma_base_of, chroma_base_of, chroma_base_is, on_line, luma_line, chroma_line, luma_base_small, chroma_base_small}
+use Rattle.yuv_parts.specs.Lines.{luma_base_of, chroma_base_of, chroma_base_is, on_line, luma_line, chroma_line}
 use Rattle.regions.specs.Regions.{opaque_of}
-use Rattle.yuv_lines.specs.Sizes.{LineSized, Sized}
 use Rattle.yuv_lines.specs.declared.Line.{Line}
 use Rattle.yuv_lines.specs.declared.Lines.{Lines}
 use Rattle.yuv_lines.specs.declared.Samples.{Samples}
@@ -38,11 +36,11 @@ lines_of s = record {
   u_blue = chroma_of s.chroma_centre s.u_to_blue;
 }
 
--- the colour of a sample whose parts lie on lines
+-- the colour of a sample whose parts lie on lines; those of green are taken away
 unfoldable pub rgb_on : Lines → (y u v : ℕ) → Rgb
 rgb_on l y u v =
     joined (on_line l.luma.gain l.luma.base y) (on_line l.v_red.gain l.v_red.base v)
-    (on_line l.u_green.gain l.u_green.base u) (on_line l.v_green.gain l.v_green.base v) (on_line l.u_blue.gain l.u_blue.base u)
+    (neg_ℤ (on_line l.u_green.gain l.u_green.base u)) (neg_ℤ (on_line l.v_green.gain l.v_green.base v)) (on_line l.u_blue.gain l.u_blue.base u)
 
 -- the A8R8G8B8 word of a colour
 abbrev pub opaque_word : Rgb → ℕ
@@ -58,19 +56,5 @@ pub set_lines : (s : YuvSet) (y u v : ℕ) → rgb_on (lines_of s) y u v ≡ rgb
 unfolding rgb_on lines_of
 set_lines s y u v =
     let n = s.chroma_centre in
-    sym (λ i. joined (luma_line s.luma_offset s.luma_gain y i) (chroma_line n s.v_to_red v i) (chroma_line n s.u_to_green u i) (chroma_line n s.v_to_green v i) (chroma_line n s.u_to_blue u i))
+    sym (λ i. joined (luma_line s.luma_offset s.luma_gain y i) (chroma_line n s.v_to_red v i) (neg_ℤ (chroma_line n s.u_to_green u i)) (neg_ℤ (chroma_line n s.v_to_green v i)) (chroma_line n s.u_to_blue u i))
     ∙ joined_set s y u v
-
--- and 32 bits have room for them
-pub set_sized : (s : YuvSet) → Legal s → Sized (lines_of s)
-unfolding lines_of
-set_sized s h = record {
-  luma = record { gain_most = h.luma_gain; base_most = luma_base_small s.luma_offset s.luma_gain h.luma_offset h.luma_gain };
-  v_red = chroma s.v_to_red h.v_to_red;
-  u_green = chroma s.u_to_green h.u_to_green;
-  v_green = chroma s.v_to_green h.v_to_green;
-  u_blue = chroma s.u_to_blue h.u_to_blue;
-}
-  where
-    chroma : (g : ℕ) → g ≤ 262143 → LineSized (chroma_of s.chroma_centre g)
-    chroma g hg = record { gain_most = hg; base_most = chroma_base_small s.chroma_centre g h.centre_most hg }

@@ -3,7 +3,7 @@
 // From the YUV functions of stretch_rect.rs of athei/mtld3d (an altered version, see NOTICE).
 #![tactic(auto)]
 
-ghost use Rattle.std.specs.Prelude.{◌≡◌, ℕ, ◌≤◌};
+ghost use Rattle.std.specs.Prelude.{◌≡◌, ℕ, ◌≤◌, neg_ℤ};
 ghost use Rattle.formats.specs.Codes.{A8R8G8B8};
 ghost use Rattle.texels.specs.Texels.{encoded_of};
 ghost use Rattle.stretch_rect.specs.Yuv.{rgb_of};
@@ -85,6 +85,15 @@ impl Line {
     {
         sample as i32 * self.gain as i32 - self.base as i32
     }
+
+    // That of a sample which is taken away, as what is added.
+    #[tactic(auto, using(std::proofs::lemmas::Int::ints))]
+    fn taken(self, sample: u8) -> i32
+        ensures is { result ≡ neg_ℤ (on_line self.gain self.base sample) }
+        ensures small { PartSize result }
+    {
+        -self.part(sample)
+    }
 }
 
 // The lines of a legal set. No From: a From loses nothing, and bases are rounded.
@@ -117,8 +126,8 @@ pub fn pair_words(lines: &Lines, s: Samples) -> Pair
     ensures { result ≡ pair_on lines.now s }
 {
     let v_red = lines.v_red.part(s.v);
-    let u_green = lines.u_green.part(s.u);
-    let v_green = lines.v_green.part(s.v);
+    let u_green = lines.u_green.taken(s.u);
+    let v_green = lines.v_green.taken(s.v);
     let u_blue = lines.u_blue.part(s.u);
     let first = Parts {
         luma: lines.luma.part(s.first),

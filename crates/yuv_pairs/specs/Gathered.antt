@@ -1,15 +1,13 @@
 -- Pairs of YUV texels that share their chroma: where their samples lie, what it is to gather them and to read the pairs' words, and the
 -- laws of one pair more. Assumes nothing.
-use Rattle.std.specs.Prelude.{◌≡◌, List, ℕ, ◌+◌, ◌*◌, ◌/◌, ◌%◌, ◌^◌, ◌≤◌, ◌<◌, eqb, length, get_or, set, take, drop, refl, Bool, true, false, ◌||◌, ◌⊎◌}
-use Rattle.std.proofs.Common.{sym, ap, ap₂, ◌∙◌, ⊎_elim, arith, add-zero, div-one, lt_of_lt_of_le, lit<, length-set, length-take, get_or-set_same, get_or-set_other, get_or-take, get_or-drop, subst, inl, inr, eqb-true}
-use Rattle.std.proofs.Math.Nat.{pow-le-pow_right}
+use Rattle.std.specs.Prelude.{◌≡◌, List, ℕ, ◌+◌, ◌*◌, ◌/◌, ◌%◌, ◌^◌, ◌≤◌, ◌<◌, eqb, length, get_or, set, take, drop}
+use Rattle.std.proofs.Common.{sym, ap, ap₂, ◌∙◌, ⊎_elim, arith, length-set, get_or-set_same, get_or-set_other, get_or-take, get_or-drop}
 use Rattle.words.specs.Tests.{pick, lt_or_eq}
-use Rattle.words.specs.Little.{Small, number, number_byte, number_lt, small_take, small_drop}
-use Rattle.formats.specs.Codes.{YUY2, UYVY, NV12, YV12}
-use Rattle.formats.specs.Classes.{is_packed_yuv, is_planar_yuv, is_yuv}
+use Rattle.words.specs.Little.{Small, number, number_byte, small_take, small_drop}
+use Rattle.formats.specs.Codes.{YV12}
+use Rattle.formats.specs.Classes.{is_packed_yuv}
 use Rattle.yuv_lines.specs.declared.Lines.{Lines}
 use Rattle.yuv_lines.specs.Pairs.{rgb_on, opaque_word}
-use Rattle.std.proofs.lemmas.Bool.{false≢true}
 
 -- ---- where samples lie
 -- so many bytes from a pair's first luma to that of the next pair: a macropixel has two lumas and their chroma, a plane lumas alone
@@ -23,12 +21,6 @@ luma_gap f = pick (is_packed_yuv f) 2 1
 -- so many from a pair's U to that of the next pair, and from V to V: YV12 has a plane of each, NV12 one of both
 unfoldable pub chroma_step : ℕ → ℕ
 chroma_step f = pick (is_packed_yuv f) 4 (pick (eqb f YV12) 1 2)
-
--- how luma, U and V lie to one another where they share a macropixel or a plane
-pub record Arranged (f luma u v : ℕ) : Type 0 where
-  pub yuy2 : f ≡ YUY2 → (u ≡ luma + 1) × (v ≡ luma + 3)
-  pub uyvy : f ≡ UYVY → (luma ≡ u + 1) × (v ≡ u + 2)
-  pub nv12 : f ≡ NV12 → v ≡ u + 1
 
 -- the samples of pair k lie below len
 pub record PairIn (len f luma u v k : ℕ) : Type 0 where
@@ -81,7 +73,7 @@ gather_more src a b step i out w g h e = record {
       (lt_or_eq k i (omega (arith, l)));
 }
 
--- the same by the places that the offsets are carried to
+-- the same by the places that are read
 pub gather_next : {src out : List ℕ} {a b step i w x y : ℕ} → Gathered src a b step i out → i < length out → x ≡ a + i * step → y ≡ b + i * step
     → w ≡ get_or src x 0 + get_or src y 0 * 256 → Gathered src a b step (i + 1) (set out i w)
 gather_next {src} {out} {a} {b} {step} {i} {w} g h e f q = gather_more src a b step i out w g h (q ∙ ap₂ (λ m n. get_or src m 0 + get_or src n 0 * 256) e f)
@@ -137,9 +129,6 @@ read_all l src f luma u v n lumas chromas was block small g h c = record {
 
 -- ---- the bytes of a word that was read
 -- a number of at most m bytes
-number_lt_at : (l : List ℕ) (m : ℕ) → length l ≤ m → Small l → number l < 2 ^ (m * 8)
-number_lt_at l m h s = lt_of_lt_of_le (number_lt l s) (pow-le-pow_right {n = 2} (lit< tt) (omega (arith, h)))
-
 -- byte i of the number of m bytes from place at on
 pub byte_read : (m at i : ℕ) (src : List ℕ) → Small src → i < m → byte_at (number (take m (drop at src))) i ≡ get_or src (at + i) 0
 byte_read m at i src s h = number_byte (take m (drop at src)) (small_take m (drop at src) (small_drop at src s)) i ∙ get_or-take m (drop at src) i 0 h ∙ get_or-drop at src i 0
@@ -151,70 +140,6 @@ packed_read at p src s h =
     ap₂ (λ x y. x + y * 256) (byte_read 4 at p src s (omega (arith, h)))
     (byte_read 4 at (p + 2) src s (omega (arith, h)) ∙ ap (λ k. get_or src k 0) (omega arith))
 
--- two bytes in a row
-pub words_read : (at : ℕ) (src : List ℕ) → Small src → number (take 2 (drop at src)) ≡ get_or src at 0 + get_or src (at + 1) 0 * 256
-words_read at src s =
-    let w = number (take 2 (drop at src)) in
-    let few : w < 65536 = number_lt_at (take 2 (drop at src)) 2 (omega (arith, length-take 2 (drop at src))) (small_take 2 (drop at src) (small_drop at src s)) in
-    let low : w % 256 ≡ get_or src at 0 = ap (λ k. k % 256) (sym (div-one w)) ∙ byte_read 2 at 0 src s (omega arith) ∙ ap (λ k. get_or src k 0) (add-zero at) in
-    let high : w / 256 % 256 ≡ get_or src (at + 1) 0 = byte_read 2 at 1 src s (omega arith) in
-    omega (arith, few, low, high)
-
 -- ---- what an arm gathers
 pub gathered_at : {src out : List ℕ} {a b s a' b' s' n : ℕ} → a ≡ a' → b ≡ b' → s ≡ s' → Gathered src a b s n out → Gathered src a' b' s' n out
 gathered_at {src = src} e f g h = record { words = λ k l. h.words k l ∙ (λ i. get_or src (e i + k * g i) 0 + get_or src (f i + k * g i) 0 * 256) }
-
--- ---- the steps of each format
-pub record Steps (f luma gap chroma : ℕ) : Type 0 where
-  pub luma_is : luma_step f ≡ luma
-  pub gap_is : luma_gap f ≡ gap
-  pub chroma_is : chroma_step f ≡ chroma
-
-pub yuy2_steps : (f : ℕ) → f ≡ YUY2 → Steps f 4 2 4
-unfolding luma_step luma_gap chroma_step is_packed_yuv
-yuy2_steps f e = subst (λ g. Steps g 4 2 4) (sym e) (record { luma_is = refl; gap_is = refl; chroma_is = refl })
-
-pub uyvy_steps : (f : ℕ) → f ≡ UYVY → Steps f 4 2 4
-unfolding luma_step luma_gap chroma_step is_packed_yuv
-uyvy_steps f e = subst (λ g. Steps g 4 2 4) (sym e) (record { luma_is = refl; gap_is = refl; chroma_is = refl })
-
-pub nv12_steps : (f : ℕ) → f ≡ NV12 → Steps f 2 1 2
-unfolding luma_step luma_gap chroma_step is_packed_yuv
-nv12_steps f e = subst (λ g. Steps g 2 1 2) (sym e) (record { luma_is = refl; gap_is = refl; chroma_is = refl })
-
-pub yv12_steps : (f : ℕ) → f ≡ YV12 → Steps f 2 1 1
-unfolding luma_step luma_gap chroma_step is_packed_yuv
-yv12_steps f e = subst (λ g. Steps g 2 1 1) (sym e) (record { luma_is = refl; gap_is = refl; chroma_is = refl })
-
--- a format of YUV that is not packed
-pub planar_left : (f : ℕ) → is_yuv f ≡ true → (f ≡ YUY2 → ⊥) → (f ≡ UYVY → ⊥) → (f ≡ NV12) ⊎ (f ≡ YV12)
-unfolding is_packed_yuv is_planar_yuv
-planar_left f h a b = go (eqb f YUY2) (eqb f UYVY) (eqb f NV12) (eqb f YV12) refl refl refl refl h
-  where
-    go : (p q r s : Bool) → eqb f YUY2 ≡ p → eqb f UYVY ≡ q → eqb f NV12 ≡ r → eqb f YV12 ≡ s → (elim p [ true ↦ true | false ↦ elim q [ true ↦ true | false ↦ false ] ] || elim r [ true ↦ true | false ↦ elim s [ true ↦ true | false ↦ false ] ]) ≡ true → (f ≡ NV12) ⊎ (f ≡ YV12)
-    go true q r s e₁ e₂ e₃ e₄ k = absurd (a (eqb-true f YUY2 e₁))
-    go false true r s e₁ e₂ e₃ e₄ k = absurd (b (eqb-true f UYVY e₂))
-    go false false true s e₁ e₂ e₃ e₄ k = inl (eqb-true f NV12 e₃)
-    go false false false true e₁ e₂ e₃ e₄ k = inr (eqb-true f YV12 e₄)
-    go false false false false e₁ e₂ e₃ e₄ k = absurd (false≢true k)
-
--- its lumas lie in a row
-pub planar_lumas : (f : ℕ) → is_yuv f ≡ true → (f ≡ YUY2 → ⊥) → (f ≡ UYVY → ⊥) → (luma_step f ≡ 2) × (luma_gap f ≡ 1)
-planar_lumas f h a b =
-    ⊎_elim (λ e. ((nv12_steps f e).luma_is, (nv12_steps f e).gap_is)) (λ e. ((yv12_steps f e).luma_is, (yv12_steps f e).gap_is)) (planar_left f h a b)
-
--- the one that is left
-pub yv12_left : (f : ℕ) → is_yuv f ≡ true → (f ≡ YUY2 → ⊥) → (f ≡ UYVY → ⊥) → (f ≡ NV12 → ⊥) → f ≡ YV12
-yv12_left f h a b c = ⊎_elim (λ e. absurd (c e)) (λ e. e) (planar_left f h a b)
-
--- ---- the room of an arm
-module _ {len f luma u v n a g c : ℕ} (s : Steps f a g c) (r : PairsIn len f luma u v n) where
-  -- a pair's last byte, by its second luma and by its V
-  pub luma_last : (k : ℕ) → k < n → luma + g + k * a < len
-  luma_last k h = let e : k * luma_step f ≡ k * a = ap (λ m. k * m) s.luma_is in omega (arith, (r k h).lumas, e, s.gap_is)
-
-  pub u_last : (k : ℕ) → k < n → u + k * c < len
-  u_last k h = let e : k * chroma_step f ≡ k * c = ap (λ m. k * m) s.chroma_is in omega (arith, (r k h).us, e)
-
-  pub v_last : (k : ℕ) → k < n → v + k * c < len
-  v_last k h = let e : k * chroma_step f ≡ k * c = ap (λ m. k * m) s.chroma_is in omega (arith, (r k h).vs, e)

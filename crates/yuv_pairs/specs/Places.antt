@@ -7,7 +7,7 @@ use Rattle.formats.specs.Codes.{YUY2, UYVY, NV12, YV12}
 use Rattle.formats.specs.Classes.{is_packed_yuv}
 use Rattle.yuv_pairs.specs.declared.PairPlaces.{PairPlaces}
 use Rattle.yuv_pairs.specs.declared.PairPlaces.TheVariants.{Yuy2, Uyvy, Yv12, Nv12}
-use Rattle.yuv_pairs.specs.Gathered.{luma_step, luma_gap, chroma_step, Arranged, PairsIn, Gathered}
+use Rattle.yuv_pairs.specs.Gathered.{luma_step, luma_gap, chroma_step, PairsIn, Gathered}
 
 -- the format of the picture
 abbrev pub format_of : PairPlaces → ℕ
@@ -65,13 +65,6 @@ pub record PlacesAre (at : PairPlaces) (f luma u v : ℕ) : Type 0 where
 -- those are places n pairs further on, in the same picture
 abbrev pub After : (at : PairPlaces) (n : ℕ) (those : PairPlaces) → Type 0
 After at n those = PlacesAre those (format_of at) (luma_at at + n * luma_step (format_of at)) (u_at at + n * chroma_step (format_of at)) (v_at at + n * chroma_step (format_of at))
-
--- places lie to one another as their format has them
-pub arranged : (at : PairPlaces) → Arranged (format_of at) (luma_at at) (u_at at) (v_at at)
-arranged (Yuy2 macropixel) = record { yuy2 = λ e. (refl, refl); uyvy = λ e. absurd (omega (arith, e)); nv12 = λ e. absurd (omega (arith, e)) }
-arranged (Uyvy macropixel) = record { yuy2 = λ e. absurd (omega (arith, e)); uyvy = λ e. (refl, refl); nv12 = λ e. absurd (omega (arith, e)) }
-arranged (Yv12 luma u v) = record { yuy2 = λ e. absurd (omega (arith, e)); uyvy = λ e. absurd (omega (arith, e)); nv12 = λ e. absurd (omega (arith, e)) }
-arranged (Nv12 luma chroma) = record { yuy2 = λ e. absurd (omega (arith, e)); uyvy = λ e. absurd (omega (arith, e)); nv12 = λ e. refl }
 
 -- ---- further on
 -- no pair further on, they are the places themselves

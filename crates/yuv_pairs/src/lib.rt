@@ -55,8 +55,8 @@ impl PairPlaces {
 // ---- gathering
 
 // Three loops stay: they differ in the step and in how a word is made, and one generic loop with three closures takes as many lines. One
-// loop that puts two single bytes together, by a step, would do for all, but took 0.76 ns a word of macropixels for 0.38: 0.7 to 1.1
-// memcpy more for each texel, where the bar is 5 and 3.4 to 4.3 were taken (docs/changes/05-lookup-tables.md).
+// loop that puts two single bytes together, by a step, would do for all, but takes 0.8 ns a word of macropixels for 0.4, and a texel, which
+// has one such word, takes 1.9 in all.
 // They go over their words by number: of what a `zip` of `iter_mut` with the parts of the source wrote no proof learns anything.
 
 // Bytes p and p + 2 of a macropixel's word. p is no number for a kind: it is the place of a byte in the macropixel, and gather_packed

@@ -5,7 +5,7 @@ ghost use Rattle.yuv_parts.specs.Parts.{PartSize, joined};
 use crate::to8;
 use stretch_rect::Rgb;
 
-// Five parts in 65536ths: one of the luma, one of V in red, one of U and one of V in green, one of U in blue.
+// Five parts in 65536ths, each of which is added: one of the luma, one of V in red, one of U and one of V in green, one of U in blue.
 #[derive(Clone, Copy)]
 pub struct Parts {
     pub luma: i32,
@@ -27,7 +27,7 @@ impl Parts {
         ensures { result ≡ joined self.luma self.v_red self.u_green self.v_green self.u_blue }
     {
         let r = to8(self.luma + self.v_red);
-        let g = to8(self.luma - self.u_green - self.v_green);
+        let g = to8(self.luma + self.u_green + self.v_green);
         let b = to8(self.luma + self.u_blue);
         Rgb { r, g, b }
     }

@@ -1,5 +1,5 @@
 -- A texel that lies within a source, by the kind of its picture. Assumes nothing.
-use Rattle.std.proofs.Common.{◌≡◌, true, List, ℕ, Ok, ◌+◌, ◌/◌, ◌*◌, ◌-◌, ◌%◌, ◌≤◌, eqb, arith, length, take, drop, sym, ap, ◌∙◌}
+use Rattle.std.proofs.Common.{◌≡◌, true, List, ℕ, Ok, ◌+◌, ◌/◌, ◌-◌, ◌%◌, ◌≤◌, eqb, length, take, drop, sym, ap, ◌∙◌}
 use Rattle.std.proofs.lemmas.List.{take_rest}
 use Rattle.formats.specs.Classes.{is_packed_yuv, is_planar_yuv}
 use Rattle.formats.specs.declared.PackedYuv.{PackedYuv}
@@ -67,8 +67,3 @@ module _ (src : List ℕ) (f : YuvFormat) (pitch slice_pitch z y x : ℕ) (insid
         ∙ ap (λ k. texel_of numbers (yuv_code k) (eqb (x % 2) 1) (take 4 (drop start src))) (sym e)
         ∙ ap (λ k. texel_of numbers (yuv_code f) (eqb (x % 2) 1) (take 4 (drop k src))) at
         ∙ sym (packed_texel numbers src (yuv_code f) pitch slice_pitch z y x (ap (λ k. is_planar_yuv (yuv_code k)) e ∙ packed_yuv_not_planar p) (ap (λ k. is_packed_yuv (yuv_code k)) e ∙ packed_yuv_is p) packed_in)
-
--- the macropixel of a column stands in its row
-pub macro_at : (pitch slice_pitch z y x row : ℕ) → row ≡ texel_start pitch slice_pitch 4 z y 0 → row + x / 2 * 4 ≡ texel_start pitch slice_pitch 4 z y (x / 2)
-unfolding texel_start
-macro_at pitch slice_pitch z y x row e = omega (arith, e)

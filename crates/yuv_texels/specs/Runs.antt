@@ -1,21 +1,28 @@
 -- A run of texels of a row, and that runs make up a row. Assumes nothing.
 use Rattle.std.specs.Prelude.{◌≡◌, List, ℕ, ◌+◌, ◌*◌, ◌-◌, ◌≤◌}
-use Rattle.std.proofs.Common.{sym, ap, ◌∙◌, zero-add, add_assoc, add-mul, mul-le-mul_right, arith}
-use Rattle.std.proofs.lemmas.List.Edits.{sets}
-use Rattle.words.specs.Iterate.{iterate, iterate_add, iterate_same}
+use Rattle.std.proofs.Common.{sym, ap, ◌∙◌, zero-add, add-mul, mul-le-mul_right, arith}
+use Rattle.words.specs.Iterate.{iterate, iterate_zero, iterate_add, iterate_same}
+use Rattle.words.proofs.IterateLaws.{iterate_step}
 use Rattle.formats.specs.Table.{bytes_of}
 use Rattle.places.specs.Places.{texel_start}
 use Rattle.yuv_sets.specs.declared.YuvSet.{YuvSet}
 use Rattle.convert_reply.specs.declared.ConvertRegion.{ConvertRegion}
-use Rattle.texels.specs.declared.Texel.{Texel}
-use Rattle.texels.specs.Texels.{encoded_bytes}
-use Rattle.blocks.specs.Blocks.{Gives}
-use Rattle.regions.specs.Regions.{to_at, source_texel, written, row_written}
+use Rattle.regions.specs.Regions.{to_at, written, row_written}
 use Rattle.regions.specs.Rows.{RowFits}
 
 -- count texels written, from column first of the row on
 unfoldable pub run_written : YuvSet → (src : List ℕ) (s d : ℕ) → ConvertRegion → (z row first count : ℕ) → List ℕ → List ℕ
 run_written numbers src s d r z row first count = iterate (λ k. written numbers src s d r z row (first + k)) count
+
+-- no texels are no run
+pub run_none : (numbers : YuvSet) (src : List ℕ) (s d : ℕ) (r : ConvertRegion) (z row first count : ℕ) (l : List ℕ) → count ≡ 0 → l ≡ run_written numbers src s d r z row first count l
+unfolding run_written
+run_none numbers src s d r z row first count l e = sym (ap (λ n. iterate (λ k. written numbers src s d r z row (first + k)) n l) e ∙ iterate_zero _ _)
+
+-- and one texel is a run of one
+pub run_one : (numbers : YuvSet) (src : List ℕ) (s d : ℕ) (r : ConvertRegion) (z row first count : ℕ) (l out : List ℕ) → count ≡ 1 → out ≡ written numbers src s d r z row first l → out ≡ run_written numbers src s d r z row first count l
+unfolding run_written
+run_one numbers src s d r z row first count l out e w = iterate_step (λ k. written numbers src s d r z row (first + k)) 0 l l out (sym (iterate_zero _ _)) (w ∙ ap (λ k. written numbers src s d r z row k l) (omega arith)) ∙ ap (λ n. iterate (λ k. written numbers src s d r z row (first + k)) n l) (sym e)
 
 -- three runs that follow one another make up the row
 pub runs_row : (numbers : YuvSet) (src : List ℕ) (s d : ℕ) (r : ConvertRegion) (z row a b c : ℕ) (l : List ℕ) → a + b + c ≡ r.width
@@ -39,23 +46,3 @@ run_room n m s d r z row first fits h =
     let one : (r.dst_x + last + 1) * bytes_of d ≡ (r.dst_x + last) * bytes_of d + 1 * bytes_of d = add-mul (r.dst_x + last) 1 (bytes_of d) in
     let less : (r.dst_x + first) * bytes_of d ≤ (r.dst_x + last + 1) * bytes_of d = mul-le-mul_right (bytes_of d) (omega (arith, h, fits.rows.0)) in
     omega (arith, fits.destination last (omega (arith, fits.rows.0)), one, less)
-
--- ---- a run of texels that are given one by one
--- the i-th of some texels, written
-unfoldable pub texel_written : (texel : ℕ → Texel) (d to i : ℕ) → List ℕ → List ℕ
-texel_written texel d to i dst = sets dst (to + i * bytes_of d) (encoded_bytes d (texel i))
-
--- n answers were written from byte to on, as any texels that the answers must be
-pub record TexelsWritten (answer : ℕ → Texel → Type 0) (d to n : ℕ) (dst out : List ℕ) : Type 0 where
-  pub by : (given : ℕ → Texel) → Gives answer n given → out ≡ iterate (texel_written given d to) n dst
-
--- those of a row's columns are a run of it
-pub run_given : (numbers : YuvSet) (src : List ℕ) (s d : ℕ) (r : ConvertRegion) (z row first count to : ℕ) (l : List ℕ) → to ≡ to_at d r z row first
-    → iterate (texel_written (λ i. source_texel numbers src s r z row (first + i)) d to) count l ≡ run_written numbers src s d r z row first count l
-unfolding run_written written texel_written to_at texel_start
-run_given numbers src s d r z row first count to l e =
-    iterate_same _ _ count l
-    (λ i h dst.
-    let on : to + i * bytes_of d ≡ texel_start r.dst_pitch r.dst_slice_pitch (bytes_of d) z (r.dst_y + row) (r.dst_x + (first + i)) =
-    omega (arith, e, ap (λ k. k * bytes_of d) (sym (add_assoc r.dst_x first i)), add-mul (r.dst_x + first) i (bytes_of d)) in
-    ap (λ k. sets dst k (encoded_bytes d (source_texel numbers src s r z row (first + i)))) on)

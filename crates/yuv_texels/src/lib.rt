@@ -1,26 +1,23 @@
-// Texels of a row of a YUV source, converted one by one by a set of numbers: packed and planar YUV into the RGB formats. A run of them is
-// a whole row, or what of a row is not half of a whole pair.
+// A texel of a row of a YUV source that goes alone, since it is not half of a whole pair: packed and planar YUV into the RGB formats, by a set
+// of numbers.
 // Ported from pixel_convert.rs of athei/mtld3d (an altered version, see NOTICE).
 #![tactic(auto)]
 
-ghost use Rattle.std.specs.Prelude.{◌≡◌, true, ℕ, ◌+◌, ◌*◌, ◌≤◌, ◌<◌, ◌%◌, ◌^◌, eqb, length, take};
-ghost use Rattle.formats.specs.Table.{bytes_of};
+ghost use Rattle.std.specs.Prelude.{◌≡◌, true, ◌+◌, ◌≤◌, ◌<◌, ◌%◌, ◌^◌, eqb, length, take};
 ghost use Rattle.formats.specs.Formats.{rgb_code, packed_yuv_code, planar_yuv_code, yuv_code};
 ghost use Rattle.planar_yuv.specs.Answers.{Legal};
-ghost use Rattle.places.specs.Places.{layout_places, places_in, bytes_at};
-ghost use Rattle.regions.specs.Regions.{to_at, texel_of};
+ghost use Rattle.places.specs.Places.{layout_places, places_at, places_in, bytes_at};
+ghost use Rattle.regions.specs.Regions.{to_at, texel_of, texel_at, written};
 ghost use Rattle.regions.specs.Rows.{RowFits};
-ghost use Rattle.yuv_texels.specs.Runs.{run_written, TexelsWritten};
 
 use convert_reply::{RegionRow, YuvSource};
 use formats::{PackedYuv, PlanarYuv, RgbFormat, YuvFormat};
-use places::Spot;
+use places::{Pitches, Spot};
 use planar_yuv::{PlanarTexel, PlanarYuvLayout};
 use texels::Texel;
 use yuv_sets::LegalSet;
 
-// A texel of a planar source. It is made here: the run's closure, where it could be, does not know that its column is one of the row, so
-// that its ghost field stays open there (tried).
+// A texel of a planar source.
 #[tactic(auto, using(crate::proofs::Fetched::planar_texel, crate::proofs::Fetched::can_read, crate::proofs::Fetched::planar_colour))]
 fn fetch_planar(
     set: LegalSet,
@@ -60,29 +57,21 @@ pub fn run_start(dst_format: RgbFormat, at: RegionRow, first: usize) -> usize
     rows.start_of(dst_format.bytes_per_texel(), at.destination_spot(first))
 }
 
-// `count` texels from byte `first_to` of the destination on, where `texel` gives the i-th. Columns are counted, here and in the runs: they
-// lie a step apart, and the buffer goes on behind them. Not by `blocks::write_words`, made public, as the texels' A8R8G8B8 words, which the
-// loop of each format decodes: so a frame of YUY2 takes 25.4 ns a texel for 19.1, and one of NV12 25.5 for 20.6. NV12 may not be slower than
-// the original: where that takes 26.5 ns, as in some runs, it takes 25.9, and so 31.9 (measured; the proof closes). Nor one loop for texels
-// and for words: a trait of what is written, its law and two impls would be longer than this loop.
-fn write_run<T: Fn(usize) -> Texel>(
-    texel: T,
-    count: usize,
-    dst: &mut [u8],
-    dst_format: RgbFormat,
-    first_to: usize,
-)
-    requires texels { (i : ℕ) → i < count → T.pre texel i }
-    requires room { first_to + count * bytes_of (rgb_code dst_format) ≤ length dst.old }
-    ensures { TexelsWritten (T.post texel) (rgb_code dst_format) first_to count dst.old dst.new }
+// A texel that lies in its source. A planar one has a layout then.
+#[tactic(auto, using(crate::proofs::Fetched::packed_in, places::proofs::ByKind::texel_laid))]
+fn fetch(source: YuvSource, src: &[u8], pitches: Pitches, at: Spot) -> Texel
+    requires { places_in (length src.now) (places_at (yuv_code source.format) pitches.row pitches.slice at.z at.y at.x) ≡ true }
+    ensures { result ≡ texel_at source.set.numbers src.now (yuv_code source.format) pitches.row pitches.slice at.z at.y at.x }
 {
-    let size = dst_format.bytes_per_texel();
-    // Carried, as a destination's offset is to be (docs/changes/02-step-along-the-row.md); of what is written through `chunks_exact_mut` a
-    // proof learns the length alone.
-    let mut to = first_to;
-    for i in 0..count {
-        texel_words::encode_rgb_pixel(dst_format, texel(i), &mut dst[to..]);
-        to += size;
+    match source.format {
+        YuvFormat::Packed(packed) => {
+            let macropixel = pitches.start_of(4, Spot { x: at.x / 2, ..at });
+            fetch_packed(source.set, &src[macropixel..], packed, at.x)
+        }
+        YuvFormat::Planar(planar) => {
+            let layout = places::layout_in_slice(planar, pitches).unwrap();
+            fetch_planar(source.set, src, planar, layout, at)
+        }
     }
 }
 
@@ -92,41 +81,24 @@ fn write_run<T: Fn(usize) -> Texel>(
 // parameters each, a buffer and what it holds. That a layout is legal, which three functions ask for, is no field of `PlanarYuvLayout`
 // (line there).
 
-// `count` texels of a row of YUV, from column `first` of it on. A planar source has a layout: the row has a texel that lies in it.
-pub fn texel_run(
+// The texel in a column of a row of YUV.
+pub fn write_texel(
     dst: &mut [u8],
     dst_format: RgbFormat,
     src: &[u8],
     source: YuvSource,
     at: RegionRow,
-    first: usize,
-    count: usize,
+    column: usize,
 )
-    requires { (RowFits (length src.now) (length dst.old) (yuv_code source.format) (rgb_code dst_format) at.region at.z at.row) × (first + count ≤ at.region.width) }
-    ensures { dst.new ≡ run_written source.set.numbers src.now (yuv_code source.format) (rgb_code dst_format) at.region at.z at.row first count dst.old }
+    requires { (RowFits (length src.now) (length dst.old) (yuv_code source.format) (rgb_code dst_format) at.region at.z at.row) × (column < at.region.width) }
+    ensures { dst.new ≡ written source.set.numbers src.now (yuv_code source.format) (rgb_code dst_format) at.region at.z at.row column dst.old }
 {
-    let pitches = at.region.source_pitches();
-    let start = at.source_spot(first);
-    let to = run_start(dst_format, at, first);
-    match source.format {
-        YuvFormat::Packed(packed) => {
-            let row = pitches.start_of(4, Spot { x: 0, ..start });
-            let texel = |i| {
-                let x = start.x + i;
-                fetch_packed(source.set, &src[row + x / 2 * 4..], packed, x)
-            };
-            write_run(texel, count, dst, dst_format, to);
-        }
-        YuvFormat::Planar(planar) => {
-            let layout = places::layout_in_slice(planar, pitches).unwrap();
-            let texel = |i| {
-                let spot = Spot {
-                    x: start.x + i,
-                    ..start
-                };
-                fetch_planar(source.set, src, planar, layout, spot)
-            };
-            write_run(texel, count, dst, dst_format, to);
-        }
-    }
+    let texel = fetch(
+        source,
+        src,
+        at.region.source_pitches(),
+        at.source_spot(column),
+    );
+    let to = run_start(dst_format, at, column);
+    texel_words::encode_rgb_pixel(dst_format, texel, &mut dst[to..]);
 }

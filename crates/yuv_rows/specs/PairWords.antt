@@ -27,7 +27,7 @@ use Rattle.yuv_pairs.specs.declared.PairPlaces.{PairPlaces}
 use Rattle.yuv_pairs.specs.Gathered.{luma_step, luma_gap, chroma_step, PairsIn, word_on, PairsRead}
 use Rattle.yuv_pairs.specs.Places.{format_of, luma_at, u_at, v_at, PlacesIn, After, after_none, after_more, by_places, by_numbers}
 use Rattle.yuv_texels.specs.Runs.{run_written}
-use Rattle.yuv_pair_rows.specs.Samples.{luma_on, u_on, v_on, PairAt, samples_in, texel_samples, first_on, second_on, u_on_lem, v_on_lem}
+use Rattle.yuv_rows.specs.Samples.{luma_on, u_on, v_on, PairAt, samples_in, texel_samples, first_on, second_on, u_on_lem, v_on_lem}
 
 -- the word of texel j of a run of pairs, whose first samples lie at luma, u and v
 unfoldable pub run_word : Lines → (src : List ℕ) (f luma u v j : ℕ) → ℕ
@@ -214,8 +214,3 @@ module _ (numbers : YuvSet) (src : List ℕ) (m s d : ℕ) (r : ConvertRegion) (
     pub run_whole : (to : ℕ) (dst out : List ℕ) → to ≡ to_at d r z row first → out ≡ iterate (word_written (run_from (lines_of numbers) src at) d to) (2 * pairs) dst
         → out ≡ run_written numbers src s d r z row first (2 * pairs) dst
     run_whole to dst out e g = run_pairs to dst out e (by_numbers there (λ f y' u' v'. out ≡ iterate (word_written (run_word (lines_of numbers) src f y' u' v') d to) (2 * pairs) dst) g)
-
--- no pairs are no run
-pub run_none : (numbers : YuvSet) (src : List ℕ) (s d : ℕ) (r : ConvertRegion) (z row first pairs : ℕ) (dst : List ℕ) → pairs ≡ 0 → dst ≡ run_written numbers src s d r z row first (2 * pairs) dst
-unfolding run_written
-run_none numbers src s d r z row first pairs dst e = sym (ap (λ n. iterate (λ k. written numbers src s d r z row (first + k)) (2 * n) dst) e ∙ iterate_zero _ _)

@@ -1,8 +1,8 @@
--- `yuv_pair_rows::pair_places` meets its contract: by the kind of the picture. Assumes nothing.
+-- `yuv_rows::pair_places` meets its contract: by the kind of the picture. Assumes nothing.
 use Rattle.std.proofs.Common.{sym, ap, ◌∙◌}
 use Rattle.planar_yuv.specs.Answers.{reply_of}
-use Rattle.yuv_pair_rows.proofs.Places.{packed_there, planar_texel, planar_there}
-use Rattle.yuv_pair_rows.proofs.pair_places.Goals as goal
+use Rattle.yuv_rows.proofs.Places.{packed_there, planar_texel, planar_there}
+use Rattle.yuv_rows.proofs.pair_places.Goals as goal
 
 pub returns-in-Packed : goal.returns-in-Packed
 returns-in-Packed c = packed_there _ _ _ _ _ _ _ _ _ c.in-Packed.is c.requires.0 c.start_of.ensures c.packed_places.ensures

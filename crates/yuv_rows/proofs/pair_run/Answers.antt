@@ -1,13 +1,13 @@
--- `yuv_pair_rows::pair_run` meets its contract: the words of the pairs are those of the run's texels. Assumes nothing.
+-- `yuv_rows::pair_run` meets its contract: the words of the pairs are those of the run's texels. Assumes nothing.
 use Rattle.std.proofs.Common.{◌*◌, ap, ◌∙◌, arith, length}
 use Rattle.words.specs.Iterate.{iterate}
 use Rattle.formats.specs.Formats.{rgb_code, yuv_code}
 use Rattle.formats.proofs.Classified.{yuv_is}
 use Rattle.blocks.specs.Blocks.{word_written}
 use Rattle.yuv_texels.proofs.Steps.{run_starts, run_ends}
-use Rattle.yuv_pair_rows.specs.PairWords.{run_from, run_inside, run_whole}
-use Rattle.yuv_pair_rows.proofs.Places.{same_pair}
-use Rattle.yuv_pair_rows.proofs.pair_run.Goals as goal
+use Rattle.yuv_rows.specs.PairWords.{run_from, run_inside, run_whole}
+use Rattle.yuv_rows.proofs.Places.{same_pair}
+use Rattle.yuv_rows.proofs.pair_run.Goals as goal
 
 pub run_start-to-requires : goal.run_start-to-requires
 run_start-to-requires c = run_starts _ _ _ _ _ _ _ _ c.requires.0 (omega arith) (omega arith)

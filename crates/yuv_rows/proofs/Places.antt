@@ -15,7 +15,7 @@ use Rattle.places.specs.Planar.{LayoutFor}
 use Rattle.places.proofs.Laid.{laid_for}
 use Rattle.yuv_pairs.specs.declared.PairPlaces.{PairPlaces}
 use Rattle.yuv_pairs.specs.declared.PairPlaces.TheVariants.{Yv12, Nv12}
-use Rattle.yuv_pair_rows.specs.Samples.{luma_on, u_on, v_on, PackedPair, PlanarPair, PairAt, laid, planar_pair_lem, packed_pair_lem}
+use Rattle.yuv_rows.specs.Samples.{luma_on, u_on, v_on, PackedPair, PlanarPair, PairAt, laid, planar_pair_lem, packed_pair_lem}
 
 -- ---- a texel of a layout
 module _ {f : PlanarYuv} (pitch rows y x : ℕ) {a : ℕ} (luma : a ≡ luma_offset_at pitch x y) where

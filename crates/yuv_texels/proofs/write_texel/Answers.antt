@@ -1,0 +1,14 @@
+-- `yuv_texels::write_texel` meets its contract: the column's texel, where it is to be. Assumes nothing.
+use Rattle.std.proofs.Common.{◌∙◌, arith}
+use Rattle.formats.specs.Formats.{rgb_code}
+use Rattle.texels.specs.Words.{texel_back}
+use Rattle.yuv_texels.proofs.Steps.{column_put}
+use Rattle.yuv_texels.proofs.write_texel.Goals as goal
+
+pub returns : goal.returns
+returns c =
+    let g = c.args in
+    let from = c.source_pitches.ensures in
+    let spot = c.source_spot.ensures in
+    texel_back g.dst.now (rgb_code g.dst_format) c.run_start-to.result c.fetch-texel.result _ (omega (arith, c.requires.0.destination g.column c.requires.1, c.run_start-to.ensures)) c.encode_rgb_pixel.ensures
+    ∙ column_put g.src.now (rgb_code g.dst_format) g.source.format g.at.region g.at.z g.at.row _ _ _ _ from.row from.slice spot.z spot.y _ _ g.column _ _ g.dst.now spot.x c.fetch-texel.ensures c.run_start-to.ensures
