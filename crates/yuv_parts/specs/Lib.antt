@@ -1,4 +1,4 @@
 -- What the contracts cite, and laws that other crates cite.
-pub mod Sums
+pub mod Clamp
 pub mod Parts
 pub mod Lines

@@ -13,7 +13,7 @@ pub use parts::Parts;
 
 // The nearest byte to a channel in 65536ths. `stretch_rect::to8` is the same in 64 bits, for the products of any
 // legal set; here 32 hold every sum of parts, and its line says why there are two.
-#[tactic(auto, using(std::proofs::lemmas::Int::ints, crate::specs::Sums::byte_clamp), unfolding(stretch_rect::specs::Yuv::nearest_whole))]
+#[tactic(auto, using(std::proofs::lemmas::Int::ints, crate::specs::Clamp::byte_clamp), unfolding(stretch_rect::specs::Yuv::nearest_whole))]
 fn to8(channel: i32) -> u8
     requires { unsigned_abs channel ≤ 201326592 }
     ensures { result ≡ clamp_to 255 (nearest_whole channel) }

@@ -1,10 +1,9 @@
 -- Every part of a byte by bt601 is small enough to be read and added in 32 bits. Assumes nothing.
 use Rattle.std.specs.Prelude.{neg_ℤ}
-use Rattle.std.proofs.Common.{◌≡◌, refl, ◌∙◌, w32, sym, subst, ℕ, ◌<◌, ◌≤◌, lit≤, ℤ, arith}
+use Rattle.std.proofs.Common.{◌≡◌, refl, ◌∙◌, w32, to_z, of_z, sym, subst, ℕ, ◌<◌, ◌≤◌, lit≤, ℤ, arith}
 use Rattle.std.proofs.lemmas.Int.{ints}
 use Rattle.yuv_sets.specs.Sets.{bt601}
 use Rattle.stretch_rect.specs.Yuv.{luma_part, chroma_part}
-use Rattle.yuv_parts.specs.Sums.{back}
 use Rattle.yuv_parts.specs.Parts.{PartSize}
 use Rattle.yuv_parts.specs.Lines.{luma_base_of, chroma_base_of, luma_line, chroma_line, luma_base_small, chroma_base_small, line_small}
 
@@ -32,9 +31,13 @@ chroma_size g c hg h =
 pub taken_size : (gain c : ℕ) → gain ≤ 262143 → c < 256 → PartSize (taken_rule gain c)
 taken_size g c hg h = omega (arith, ints, chroma_size g c hg h)
 
--- such a part is what is read back of it in 32 bits
-pub read_back : {x a : ℤ} → x ≡ a → PartSize a → (back w32 x ≡ a) × PartSize (back w32 x)
-read_back {x} {a} e h = let same : back w32 x ≡ a = omega (arith, ints) in (same, subst PartSize (sym same) h)
+-- z as it is read back in 32 bits
+abbrev back : ℤ → ℤ
+back z = to_z w32 (of_z w32 z)
 
-pub part_read : {x a : ℤ} → (x ≡ a) × PartSize x → back w32 x ≡ a
+-- such a part is what is read back of it
+pub read_back : {x a : ℤ} → x ≡ a → PartSize a → (back x ≡ a) × PartSize (back x)
+read_back {x} {a} e h = let same : back x ≡ a = omega (arith, ints) in (same, subst PartSize (sym same) h)
+
+pub part_read : {x a : ℤ} → (x ≡ a) × PartSize x → back x ≡ a
 part_read p = (read_back refl p.1).0 ∙ p.0

@@ -1,7 +1,7 @@
 -- A rule of a table of integers: a test that the checker computes at every entry, and the law that carries it to each one. Assumes nothing.
 use Rattle.std.specs.Prelude.{◌≡◌, Bool, false, List, ℕ, ◌<◌, T, eqb, ℤ, pos, negsuc, length, get_or}
 use Rattle.std.proofs.Common.{ap, eqb→eq}
-use Rattle.yuv_tables.specs.Tables.{every_entry_of, entry_of}
+use Rattle.words.specs.Computed.{every_entry, entry_of}
 
 -- ---- integers
 -- whether two are equal
@@ -20,7 +20,7 @@ same_number_lem (negsuc m) (negsuc n) t = ap negsuc (eqb→eq m n t)
 -- ---- tables
 -- every entry is the rule's number at its place
 abbrev pub follows : (ℕ → ℤ) → List ℤ → Bool
-follows rule xs = every_entry_of (λ k x. same_number x (rule k)) 0 xs
+follows rule xs = every_entry (λ k x. same_number x (rule k)) 0 xs
 
 pub entry_is : (rule : ℕ → ℤ) (xs : List ℤ) → T (follows rule xs) → (k : ℕ) → k < length xs → get_or xs k (pos 0) ≡ rule k
 entry_is rule xs t k h = same_number_lem (get_or xs k (pos 0)) (rule k) (entry_of (λ j x. same_number x (rule j)) xs (pos 0) t k h)

@@ -1,3 +1,2 @@
 -- Laws that the proofs cite.
-pub mod Tables
 pub mod Entries

@@ -1,4 +1,4 @@
-// The colour of a YUV texel by lookup: five tables of 256 entries, which are the parts of every sample by document 01's numbers, in 65536ths.
+// The colour of a YUV texel by lookup: five tables of 256 entries, which are what every sample adds by document 01's numbers, in 65536ths.
 // From the YUV functions of stretch_rect.rs of athei/mtld3d (an altered version, see NOTICE).
 #![tactic(auto)]
 
