@@ -1,29 +1,37 @@
 /*
  * libwentuqis.a for C99 and C++: pixel conversion, planar YUV layouts, colour fills and depth planes of Direct3D 9.
- * An altered version of parts of mtld3d (https://github.com/athei/mtld3d), see NOTICE.
+ * An altered version of parts of mtld3d (https://github.com/athei/mtld3d), see NOTICE. docs/RULES.md has the rules of
+ * every call, docs/TARGETS.md the machines that there are archives for. Those for x86-64 are built for x86-64-v2 or
+ * x86-64-v3: a machine without SSE4.2, or for v3 without AVX2, gets an illegal instruction.
  *
  * A uint32_t reply is 0 where the call was accepted, else the number of the refusal; where several apply, the lowest,
  * but that 15 comes between 2 and 3. Refused, a call leaves every lent byte (of dst, depth, stencil, packed) as it was;
- * where values are handed back (bytes, length, layout) it puts zeros. No call keeps a pointer, or reads or writes
- * outside what it was lent.
+ * a struct that it hands back (fill, layout) it fills with zeros. No call keeps a pointer, or reads or writes outside
+ * what it was lent.
  *
  * What the caller owes, since no contract of the library can cover it:
  *   - No pointer is null, not even with length 0. A pointer that comes with length 0 is neither read nor written
  *     through: it may be the address of any object.
- *   - A pointer and its length stand for that many initialised bytes of one object; a pointer to an array, or to
- *     length, stands for all of it, initialised and aligned for its type.
- *   - A buffer that a call may write (a pointer that is not const) overlaps no other buffer of that call.
+ *   - A pointer and its length stand for that many initialised bytes of one object. A pointer to a struct or an array
+ *     stands for all of it, initialised and aligned for its type, also where the call only writes it. Every number may
+ *     stand in every field.
+ *   - Nothing that a call may write (a pointer that is not const) overlaps anything else that it is lent: a picture is
+ *     not converted in place, and a struct that is handed back overlaps nothing.
  *   - Until a call returns, nothing else writes what it was lent, or reads what it may write.
+ * A conversion takes time that grows with width * height * depth, whatever the lengths of the buffers: a pitch may be
+ * 0, and all rows then lie in one place.
  *
  * Where things lie. Lengths, pitches and offsets are in bytes, numbers are little-endian, divisions round down.
- *   - Texel of a conversion at slice z, row y, column x: z * slice_pitch + y * pitch + x * (bytes of a texel). A packed
- *     YUV texel needs its whole macropixel of four bytes, at z * slice_pitch + y * pitch + x / 2 * 4: Y U Y V in YUY2,
- *     U Y V Y in UYVY, the first Y for the even column.
+ *   - Texel of a side at slice z, row y, column x, where y and x count from the side's own: z * slice_pitch +
+ *     (side.y + y) * pitch + (side.x + x) * (bytes of a texel). A packed YUV texel needs its whole macropixel of four
+ *     bytes, at z * slice_pitch + (side.y + y) * pitch + (side.x + x) / 2 * 4: Y U Y V in YUY2, U Y V Y in UYVY, the
+ *     first Y for the even column.
  *   - Texel of a planar frame: Y at y * pitch + x. With B = pitch * luma_rows, NV12 has U at
  *     B + y / 2 * pitch + x / 2 * 2 and V next; YV12 has V at B + y / 2 * (pitch / 2) + x / 2 and U later by
  *     chroma_rows * (pitch / 2). The pitch is even, at most 16384; chroma rows are half the luma rows, rounded up, and
  *     both together at most 16384; YV12 has an even number of luma rows. In a conversion there are
- *     src_slice_pitch / src_pitch luma rows, and a row has as many texels as the pitch has bytes.
+ *     source.slice_pitch / source.pitch luma rows (the chroma rows are not counted), and a row has as many texels as
+ *     the pitch has bytes.
  *   - Pixel of the two planes: depth at y * depth_pitch + 4 * x, a binary32 number in little-endian bytes; stencil at
  *     y * stencil_pitch + x, a byte.
  *   - Packed depth pixel: D16 at y * packed_pitch + 2 * x, a 16-bit code; D24S8 and D24X8 at y * packed_pitch + 4 * x.
@@ -37,10 +45,55 @@
 #include <stddef.h>
 #include <stdint.h>
 
+#define WENTUQIS_VERSION_MAJOR 0
+#define WENTUQIS_VERSION_MINOR 1
+#define WENTUQIS_VERSION_PATCH 0
+#define WENTUQIS_VERSION "0.1.0"
+
 #if defined(SIZE_MAX) && defined(UINT64_MAX)
 #if SIZE_MAX != UINT64_MAX
-#error "libwentuqis.a is built for x86-64: size_t has 64 bits"
+#error "libwentuqis.a is built for machines on which size_t has 64 bits"
 #endif
+#endif
+
+/* What a compiler can be told of a call: WENTUQIS_NONNULL that no pointer is null, WENTUQIS_MUST_USE that what is
+ * returned is to be looked at, WENTUQIS_READS and WENTUQIS_WRITES that one parameter is a pointer to so many bytes and
+ * another their number (their places, from 1), WENTUQIS_READS_ONE and WENTUQIS_WRITES_ONE that a parameter points to
+ * one object. Memory that is written must be initialised too. */
+#if defined(__has_attribute)
+#if __has_attribute(nonnull)
+#define WENTUQIS_NONNULL __attribute__((nonnull))
+#endif
+#if __has_attribute(warn_unused_result)
+#define WENTUQIS_MUST_USE __attribute__((warn_unused_result))
+#endif
+#if __has_attribute(access)
+#define WENTUQIS_READS(pointer, length) __attribute__((access(read_only, pointer, length)))
+#define WENTUQIS_WRITES(pointer, length) __attribute__((access(read_write, pointer, length)))
+#define WENTUQIS_READS_ONE(pointer) __attribute__((access(read_only, pointer)))
+#define WENTUQIS_WRITES_ONE(pointer) __attribute__((access(read_write, pointer)))
+#endif
+#endif
+#ifndef WENTUQIS_NONNULL
+#define WENTUQIS_NONNULL
+#endif
+#ifndef WENTUQIS_MUST_USE
+#define WENTUQIS_MUST_USE
+#endif
+#ifndef WENTUQIS_READS
+#define WENTUQIS_READS(pointer, length)
+#define WENTUQIS_WRITES(pointer, length)
+#define WENTUQIS_READS_ONE(pointer)
+#define WENTUQIS_WRITES_ONE(pointer)
+#endif
+
+/* The calling convention: on x86-64 System V's on every system, Windows too, where the compiler has to be told. */
+#if defined(_WIN32) && (defined(__GNUC__) || defined(__clang__))
+#define WENTUQIS_CALL __attribute__((sysv_abi))
+#elif defined(_WIN32)
+#error "the calls have the System V convention, which this compiler cannot make: use gcc or clang"
+#else
+#define WENTUQIS_CALL
 #endif
 
 #ifdef __cplusplus
@@ -99,7 +152,7 @@ enum {
     WENTUQIS_ACCEPTED = 0,
     /* wentuqis_convert_region, wentuqis_convert_region_with_set */
     WENTUQIS_UNSUPPORTED_PAIR = 1,    /* wentuqis_can_convert is false for the two formats */
-    WENTUQIS_PLANAR_SHAPE = 2,        /* planar source: depth not 1, source pitch 0, or slice pitch no multiple of it */
+    WENTUQIS_PLANAR_SHAPE = 2,        /* planar source: depth not 1, pitch 0, or slice pitch no multiple of it */
     WENTUQIS_SOURCE_OUTSIDE = 3,      /* a texel outside src or its planar layout, or a column or row past 32 bits */
     WENTUQIS_DESTINATION_OUTSIDE = 4, /* a texel outside dst, or a column or row past 32 bits */
     /* wentuqis_d3dcolor_fill_pixel_bytes */
@@ -120,96 +173,206 @@ enum {
     WENTUQIS_ILLEGAL_SET = 15 /* YUV source: a gain above 262143, an offset above 4194303, a centre not 255 or 256 */
 };
 
-/* The named sets of YUV numbers: what follows depth in a call of wentuqis_convert_region_with_set, or stands in the
- * braces of an array of seven. Each is a list of arguments, and no expression.
+/* A reply in words; a text of its own for a number that is no reply. */
+static inline const char *wentuqis_refusal_text(uint32_t reply)
+{
+    switch (reply) {
+    case WENTUQIS_ACCEPTED:
+        return "accepted";
+    case WENTUQIS_UNSUPPORTED_PAIR:
+        return "unsupported pair: the two formats do not convert";
+    case WENTUQIS_PLANAR_SHAPE:
+        return "planar shape: depth must be 1, the source pitch not 0, its slice pitch pitch times luma rows";
+    case WENTUQIS_SOURCE_OUTSIDE:
+        return "source outside: a texel of the region lies outside the source or its planar layout";
+    case WENTUQIS_DESTINATION_OUTSIDE:
+        return "destination outside: a texel of the region lies outside the destination";
+    case WENTUQIS_NO_FILL:
+        return "no fill: the format has none";
+    case WENTUQIS_ZERO_SIZE:
+        return "zero size: width and height must be at least 1";
+    case WENTUQIS_NO_POWER_OF_TWO:
+        return "no power of two: the alignment must be one";
+    case WENTUQIS_OVER_64_BITS:
+        return "over 64 bits: a plane would have more bytes than 64 bits count";
+    case WENTUQIS_NOT_PACKED_DEPTH:
+        return "not packed depth: the format must be D16, D24X8 or D24S8";
+    case WENTUQIS_BAD_LAYOUT:
+        return "bad layout: a size is 0, a pitch is below a row, or a plane is over 64 bits";
+    case WENTUQIS_SHORT_PACKED:
+        return "short packed rows: the packed pitch is below a row, or packed is too short";
+    case WENTUQIS_SHORT_DEPTH:
+        return "short depth plane: depth must have depth pitch times height bytes";
+    case WENTUQIS_SHORT_STENCIL:
+        return "short stencil plane: stencil must have stencil pitch times height bytes";
+    case WENTUQIS_NO_PLANAR_LAYOUT:
+        return "no planar layout: the format must be YV12 or NV12, and a frame have these sizes";
+    case WENTUQIS_ILLEGAL_SET:
+        return "illegal set: a number lies outside its range";
+    default:
+        return "no reply of this version";
+    }
+}
+
+/* Where the texels of a region lie in one of the two buffers: bytes from a row to the next and from a slice to the
+ * next, and the column and row of the first texel. Of a planar source the slice pitch is pitch * luma rows. */
+typedef struct WentuqisSide {
+    size_t pitch;
+    size_t slice_pitch;
+    uint32_t x;
+    uint32_t y;
+} WentuqisSide;
+
+/* A region to convert: depth slices of height rows of width texels. Depth is 1 for a picture or a frame, and the number
+ * of slices for a volume: with depth 0 a conversion is accepted and writes nothing. */
+typedef struct WentuqisRegion {
+    WentuqisSide source;
+    WentuqisSide destination;
+    size_t depth;
+    uint32_t width;
+    uint32_t height;
+} WentuqisRegion;
+
+/* The numbers of a conversion from YUV: luma_gain and the four from v_to_red to u_to_blue are 0 to 262143, luma_offset
+ * is 0 to 4194303, all in 65536ths; chroma_centre is 255 or 256, in halves. */
+typedef struct WentuqisYuvSet {
+    uint32_t luma_gain;
+    uint32_t luma_offset;
+    uint32_t v_to_red;
+    uint32_t u_to_green;
+    uint32_t v_to_green;
+    uint32_t u_to_blue;
+    uint32_t chroma_centre;
+} WentuqisYuvSet;
+
+/* Width and height of a picture, and the bytes from a row to the next of its depth plane and of its stencil plane. */
+typedef struct WentuqisPlaneLayout {
+    uint64_t width;
+    uint64_t height;
+    uint64_t depth_pitch;
+    uint64_t stencil_pitch;
+} WentuqisPlaneLayout;
+
+/* A planar frame: bytes of a luma row, luma rows, chroma rows, and bytes of all of it. */
+typedef struct WentuqisPlanarYuvLayout {
+    uint64_t pitch;
+    uint64_t luma_rows;
+    uint64_t chroma_rows;
+    uint64_t total_bytes;
+} WentuqisPlanarYuvLayout;
+
+/* One texel of a fill: the first length of bytes, then zeros. */
+typedef struct WentuqisFillPixel {
+    uint8_t bytes[16];
+    uint32_t length;
+} WentuqisFillPixel;
+
+/* The named sets of YUV numbers as initialisers: WentuqisYuvSet set = WENTUQIS_BT709; wentuqis_bt601 and wentuqis_bt709
+ * hand the same numbers back.
  * BT.601 as wentuqis_convert_region and wentuqis_yuv_to_rgb8 have it: 1.164, 16.065, 1.596, 0.392, 0.813, 2.017 as the
  * nearest 65536ths, centre 127.5. BT.709: 1.164, 16, 1.793, 0.213, 0.533, 2.112, centre 128. */
-#define WENTUQIS_BT601 76284, 1052836, 104595, 25690, 53281, 132186, 255
-#define WENTUQIS_BT709 76284, 1048576, 117506, 13959, 34931, 138412, 256
+#define WENTUQIS_BT601 {76284, 1052836, 104595, 25690, 53281, 132186, 255}
+#define WENTUQIS_BT709 {76284, 1048576, 117506, 13959, 34931, 138412, 256}
 
 /* Whether a conversion, by whatever set, takes this pair: the twelve RGB formats into each other, the four YUV
  * formats into these, the two wide formats and the six from A2B10G10R10 to L16 into A8R8G8B8. */
+WENTUQIS_CALL WENTUQIS_MUST_USE
 bool wentuqis_can_convert(uint32_t src_format, uint32_t dst_format);
 
 /* The pairs that UpdateSurface and UpdateTexture take:
  * those of wentuqis_can_convert without planar sources and without those that convert into A8R8G8B8 only. */
+WENTUQIS_CALL WENTUQIS_MUST_USE
 bool wentuqis_can_convert_update(uint32_t src_format, uint32_t dst_format);
 
-/* Converts width x height x depth texels of src into dst by slice, row, column; the last of overlapping texels stands,
- * X is written as ones. In the six sources from A2B10G10R10 to L16 an unsigned code gives the nearest byte, a signed n
- * the nearest to 255n/127, and 0 if at or below zero; L16 fills red, green and blue; a channel that is lacking is 255.
+/* Converts the texels of a region of src into dst by slice, row, column; the last of overlapping texels stands, X is
+ * written as ones. In the six sources from A2B10G10R10 to L16 an unsigned code gives the nearest byte, a signed n the
+ * nearest to 255n/127, and 0 if at or below zero; L16 fills red, green and blue; a channel that is lacking is 255.
  * YUV goes by WENTUQIS_BT601.
  * Refusals 1 to 4; with width, height or depth 0 neither 3 nor 4, and nothing is written. */
+WENTUQIS_CALL WENTUQIS_MUST_USE WENTUQIS_NONNULL WENTUQIS_WRITES(1, 2) WENTUQIS_READS(4, 5) WENTUQIS_READS_ONE(7)
 uint32_t wentuqis_convert_region(uint8_t *dst, size_t dst_len, uint32_t dst_format,
                                  const uint8_t *src, size_t src_len, uint32_t src_format,
-                                 uint32_t src_x, uint32_t src_y, uint32_t dst_x, uint32_t dst_y,
-                                 uint32_t width, uint32_t height, size_t src_pitch, size_t dst_pitch,
-                                 size_t src_slice_pitch, size_t dst_slice_pitch, size_t depth);
+                                 const WentuqisRegion *region);
 
-/* The same with YUV by these numbers. luma_gain and the four from v_to_red to u_to_blue are 0 to 262143, luma_offset is
- * 0 to 4194303, all in 65536ths; chroma_centre is 255 or 256, in halves. With L = luma_gain * (Y - luma_offset), and
- * u and v for U and V less the centre, red is L + v_to_red * v, green L - u_to_green * u - v_to_green * v, blue
- * L + u_to_blue * u. Each product is rounded down to a 65536th and each sum to the nearest whole number, halves up, and
- * clamped to 0..255: the byte lies within 1/2 + 1/16384 of the exact value, clamped.
+/* The same with YUV by the numbers of a set. With L = luma_gain * (Y - luma_offset), and u and v for U and V less the
+ * centre, red is L + v_to_red * v, green L - u_to_green * u - v_to_green * v, blue L + u_to_blue * u. Each product is
+ * rounded down to a 65536th and each sum to the nearest whole number, halves up, and clamped to 0..255: the byte lies
+ * within 1/2 + 1/16384 of the exact value, clamped.
  * Refusals 1, 2, 15, 3 and 4, in this order; with width, height or depth 0 neither 3 nor 4, and nothing is written.
- * With a source that is not YUV the numbers are not looked at: they may be any, and there is no 15. */
+ * With a source that is not YUV the set is not looked at: its numbers may be any, and there is no 15. */
+WENTUQIS_CALL WENTUQIS_MUST_USE WENTUQIS_NONNULL
+WENTUQIS_WRITES(1, 2) WENTUQIS_READS(4, 5) WENTUQIS_READS_ONE(7) WENTUQIS_READS_ONE(8)
 uint32_t wentuqis_convert_region_with_set(uint8_t *dst, size_t dst_len, uint32_t dst_format,
                                           const uint8_t *src, size_t src_len, uint32_t src_format,
-                                          uint32_t src_x, uint32_t src_y, uint32_t dst_x, uint32_t dst_y,
-                                          uint32_t width, uint32_t height, size_t src_pitch, size_t dst_pitch,
-                                          size_t src_slice_pitch, size_t dst_slice_pitch, size_t depth,
-                                          uint32_t luma_gain, uint32_t luma_offset, uint32_t v_to_red,
-                                          uint32_t u_to_green, uint32_t v_to_green, uint32_t u_to_blue,
-                                          uint32_t chroma_centre);
+                                          const WentuqisRegion *region, const WentuqisYuvSet *set);
 
-/* One texel of a D3DCOLOR (0xAARRGGBB): the first *length of bytes, then zeros. X keeps the colour's alpha bits.
- * Refusal 5, with *length 0 and sixteen zeros. bytes and *length must be initialised memory. */
-uint32_t wentuqis_d3dcolor_fill_pixel_bytes(uint32_t color, uint32_t format, uint8_t bytes[16], uint32_t *length);
+/* Hands back WENTUQIS_BT601: each number is proved to be the nearest to its decimal. Never refuses. */
+WENTUQIS_CALL WENTUQIS_NONNULL WENTUQIS_WRITES_ONE(1)
+void wentuqis_bt601(WentuqisYuvSet *set);
+
+/* Hands back WENTUQIS_BT709, likewise. Never refuses. */
+WENTUQIS_CALL WENTUQIS_NONNULL WENTUQIS_WRITES_ONE(1)
+void wentuqis_bt709(WentuqisYuvSet *set);
+
+/* Red, green and blue of a BT.601 sample of reduced range; luma starts at 16.065, cb (U) and cr (V) centre on 127.5.
+ * Never refuses. */
+WENTUQIS_CALL WENTUQIS_NONNULL WENTUQIS_WRITES_ONE(4)
+void wentuqis_yuv_to_rgb8(uint8_t luma, uint8_t cb, uint8_t cr, uint8_t rgb[3]);
+
+/* The same colour as wentuqis_yuv_to_rgb8, for every sample, by five tables of 256 numbers, which are looked up and
+ * added. docs/BENCHMARKS.md has what a call of either takes. Never refuses. */
+WENTUQIS_CALL WENTUQIS_NONNULL WENTUQIS_WRITES_ONE(4)
+void wentuqis_yuv_to_rgb8_by_tables(uint8_t luma, uint8_t cb, uint8_t cr, uint8_t rgb[3]);
+
+/* The layout of a planar frame: pitch is width raised to a multiple of 4, luma rows are the height.
+ * Refusal 14, with a layout of zeros. */
+WENTUQIS_CALL WENTUQIS_MUST_USE WENTUQIS_NONNULL WENTUQIS_WRITES_ONE(4)
+uint32_t wentuqis_planar_yuv_layout(uint32_t format, uint32_t width, uint32_t height, WentuqisPlanarYuvLayout *layout);
+
+/* The same for a frame known by its pitch and luma rows. Refusal 14, with a layout of zeros. */
+WENTUQIS_CALL WENTUQIS_MUST_USE WENTUQIS_NONNULL WENTUQIS_WRITES_ONE(4)
+uint32_t wentuqis_planar_yuv_layout_from_pitch(uint32_t format, size_t pitch, size_t luma_rows,
+                                               WentuqisPlanarYuvLayout *layout);
+
+/* One texel of a D3DCOLOR (0xAARRGGBB). X keeps the colour's alpha bits. Refusal 5, with a fill of zeros. */
+WENTUQIS_CALL WENTUQIS_MUST_USE WENTUQIS_NONNULL WENTUQIS_WRITES_ONE(3)
+uint32_t wentuqis_d3dcolor_fill_pixel_bytes(uint32_t color, uint32_t format, WentuqisFillPixel *fill);
 
 /* Repeats pixel over all of dst: byte i becomes pixel[i % pixel_len].
  * Never refuses; an empty pixel changes no byte. */
+WENTUQIS_CALL WENTUQIS_NONNULL WENTUQIS_WRITES(1, 2) WENTUQIS_READS(3, 4)
 void wentuqis_splat_pixel_pattern(uint8_t *dst, size_t dst_len, const uint8_t *pixel, size_t pixel_len);
 
 /* The binary16 number nearest to a binary32 one, ties to even, both as their bits. Never refuses.
  * The sign stays: magnitudes up to 2^-25 give zero, from 65520 on infinity, a NaN gives 0x7e00. */
+WENTUQIS_CALL WENTUQIS_MUST_USE
 uint16_t wentuqis_f32_to_f16_bits(uint32_t bits);
 
-/* Red, green, blue and alpha of a D3DCOLOR (0xAARRGGBB), each divided by 255.
- * Never refuses. rgba must be initialised memory. */
+/* Red, green, blue and alpha of a D3DCOLOR (0xAARRGGBB), each divided by 255. Never refuses. */
+WENTUQIS_CALL WENTUQIS_NONNULL WENTUQIS_WRITES_ONE(2)
 void wentuqis_d3dcolor_to_rgba_f32(uint32_t color, float rgba[4]);
 
-/* Red, green and blue of a BT.601 sample of reduced range; luma starts at 16.065, cb (U) and cr (V) centre on 127.5.
- * Never refuses. rgb must be initialised memory. */
-void wentuqis_yuv_to_rgb8(uint8_t luma, uint8_t cb, uint8_t cr, uint8_t rgb[3]);
+/* The layout of the two planes of a picture: depth pitch and stencil pitch are 4 x width and width, raised to a
+ * multiple of alignment, which counts as 4 if below. Refusals 6 to 8, with a layout of zeros. */
+WENTUQIS_CALL WENTUQIS_MUST_USE WENTUQIS_NONNULL WENTUQIS_WRITES_ONE(4)
+uint32_t wentuqis_plane_layout(uint32_t width, uint32_t height, uint32_t alignment, WentuqisPlaneLayout *layout);
 
-/* The same colour as wentuqis_yuv_to_rgb8, for every sample, by five tables of 256 numbers, which are looked up and added.
- * docs/BENCHMARKS.md has what a call of either takes.
- * Never refuses. rgb must be initialised memory. */
-void wentuqis_yuv_to_rgb8_by_tables(uint8_t luma, uint8_t cb, uint8_t cr, uint8_t rgb[3]);
-
-/* layout is width, height, depth pitch, stencil pitch: 4 x width and width raised to a multiple of alignment, which
- * counts as 4 if below. Refusals 6 to 8, with four zeros. layout must be initialised memory. */
-uint32_t wentuqis_plane_layout(uint32_t width, uint32_t height, uint32_t alignment, uint64_t layout[4]);
-
-/* Unpacks each pixel: what its code stands for, rounded once, into depth, the stencil byte of D24S8 into stencil.
- * Refusals 9 to 13. Row padding is kept. Without a stencil its plane is neither read nor written. */
-uint32_t wentuqis_unpack(uint32_t format, size_t width, size_t height, size_t depth_pitch, size_t stencil_pitch,
-                         const uint8_t *packed, size_t packed_len, size_t packed_pitch,
-                         uint8_t *depth, size_t depth_len, uint8_t *stencil, size_t stencil_len);
+/* Unpacks each pixel: what its code stands for, rounded once, into depth, the stencil byte of D24S8 into stencil. A
+ * layout of any numbers may be lent. Refusals 9 to 13. Row padding is kept. Without a stencil its plane is neither read
+ * nor written. */
+WENTUQIS_CALL WENTUQIS_MUST_USE WENTUQIS_NONNULL
+WENTUQIS_WRITES(1, 2) WENTUQIS_WRITES(3, 4) WENTUQIS_READS(5, 6) WENTUQIS_READS_ONE(9)
+uint32_t wentuqis_unpack(uint8_t *depth, size_t depth_len, uint8_t *stencil, size_t stencil_len,
+                         const uint8_t *packed, size_t packed_len, size_t packed_pitch, uint32_t format,
+                         const WentuqisPlaneLayout *layout);
 
 /* Packs each pixel: its depth, clamped to 0..1, NaN as 0, as the nearest code, ties to even; X as 0. Padding is kept.
  * Refusals 9 to 13. Packing the untouched planes of an unpacked D16 or D24S8 picture restores every pixel. */
-uint32_t wentuqis_pack(uint32_t format, size_t width, size_t height, size_t depth_pitch, size_t stencil_pitch,
+WENTUQIS_CALL WENTUQIS_MUST_USE WENTUQIS_NONNULL
+WENTUQIS_WRITES(1, 2) WENTUQIS_READS(4, 5) WENTUQIS_READS(6, 7) WENTUQIS_READS_ONE(9)
+uint32_t wentuqis_pack(uint8_t *packed, size_t packed_len, size_t packed_pitch,
                        const uint8_t *depth, size_t depth_len, const uint8_t *stencil, size_t stencil_len,
-                       uint8_t *packed, size_t packed_len, size_t packed_pitch);
-
-/* layout is pitch (width raised to a multiple of 4), luma rows (height), chroma rows, total bytes of a planar frame.
- * Refusal 14, with four zeros. layout must be initialised memory. */
-uint32_t wentuqis_planar_yuv_layout(uint32_t format, uint32_t width, uint32_t height, uint64_t layout[4]);
-
-/* The same for a frame known by its pitch and luma rows.
- * Refusal 14, with four zeros. layout must be initialised memory. */
-uint32_t wentuqis_planar_yuv_layout_from_pitch(uint32_t format, size_t pitch, size_t luma_rows, uint64_t layout[4]);
+                       uint32_t format, const WentuqisPlaneLayout *layout);
 
 #ifdef __cplusplus
 }

@@ -1,7 +1,7 @@
 //! What the original answers to a call, for those who record its answers and those who compare. It
-//! does not decide where document 02 departs from it: paper.rs and stills.rs answer for the pairs
-//! that are added, paper.rs and sets.rs for sets other than BT601, and the C compiler for the
-//! binary16 codes that are others.
+//! does not decide where the port departs from it (docs/DIFFERENCES.md): rules.rs and stills.rs
+//! answer for the pairs that it refuses and the port converts, rules.rs and sets.rs for sets other
+//! than BT601, and the C compiler for the binary16 codes that are others.
 #![allow(dead_code)]
 
 use original::{
@@ -13,12 +13,13 @@ use original::{
 use crate::{
     calls::{ConvertCall, DepthCall},
     common::{Planes, Region},
-    paper, sets, stills,
+    rules, sets, stills,
 };
 
 /// Whether a pair of formats converts.
 pub fn pair(src_format: u32, dst_format: u32) -> bool {
-    paper::is_added(src_format, dst_format) || pixel_convert::can_convert(src_format, dst_format)
+    rules::original_refuses(src_format, dst_format)
+        || pixel_convert::can_convert(src_format, dst_format)
 }
 
 /// The turns of its loops, an empty region's too.
@@ -28,26 +29,29 @@ pub fn effort(region: &Region) -> u128 {
         .saturating_mul(region.width.max(1).into())
 }
 
-/// Whether it can be asked of a conversion with this reply by the documents: it refuses before it
-/// looks at a texel, or no sum of its wraps and it `ends` soon.
+/// Whether it can be asked of a conversion with this reply by the rules: it refuses before it
+/// looks at a texel, or no sum of its wraps and it `ends` soon. The stand-in looks at no texel of a
+/// region that is empty or that it refuses.
 pub fn can_convert(call: &ConvertCall, reply: u32, ends: impl FnOnce() -> bool) -> bool {
-    let fits = || paper::is_empty(&call.region) || call.conversion().sums_fit();
-    matches!(reply, 1 | 2 | 15) || fits() && ends()
+    let is_empty = rules::is_empty(&call.region);
+    let fits = || is_empty || call.conversion().sums_fit();
+    let at_once = matches!(reply, 1 | 2 | 15) || original::BY_RULES && (is_empty || reply != 0);
+    at_once || fits() && ends()
 }
 
-/// Whether document 02 answers to a conversion in its place.
-pub fn by_document(call: &ConvertCall) -> bool {
-    paper::is_added(call.src_format, call.dst_format) || has_other_set(call)
+/// Whether the rules beyond the original answer to a conversion in its place.
+pub fn by_rules(call: &ConvertCall) -> bool {
+    rules::original_refuses(call.src_format, call.dst_format) || has_other_set(call)
 }
 
 /// Whether the source is read by another set than the original's.
 fn has_other_set(call: &ConvertCall) -> bool {
-    call.set_in_use().is_some_and(|set| set != paper::BT601)
+    call.set_in_use().is_some_and(|set| set != rules::BT601)
 }
 
 /// Whether it accepts, and its destination.
 pub fn convert(call: &ConvertCall) -> (bool, Vec<u8>) {
-    if paper::is_added(call.src_format, call.dst_format) {
+    if rules::original_refuses(call.src_format, call.dst_format) {
         return stills::convert(call);
     }
     if has_other_set(call) {

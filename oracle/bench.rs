@@ -16,9 +16,9 @@
 //! FILE keeps what it has from its first line `## ..` on.
 
 mod common;
-mod paper;
 #[cfg(port)]
 mod port;
+mod rules;
 
 use std::{
     collections::HashMap,
@@ -37,7 +37,7 @@ use original::{
     pixel_convert::{ConvertRegion, convert_region},
     stretch_rect::yuv_to_rgb8,
 };
-use paper::{A8R8G8B8, BT709, FORMATS, Format, Kind, Texel, named};
+use rules::{A8R8G8B8, BT709, FORMATS, Format, Kind, Texel, named};
 
 const WIDTH: u32 = 4096;
 const HEIGHT: u32 = 2160;
@@ -100,9 +100,9 @@ const SHORT_CONVERSIONS: [Pair; 12] = [
 
 /// The packed depth formats, each unpacked and packed.
 const DEPTHS: [(&str, u32); 3] = [
-    ("D16", paper::D16),
-    ("D24X8", paper::D24X8),
-    ("D24S8", paper::D24S8),
+    ("D16", rules::D16),
+    ("D24X8", rules::D24X8),
+    ("D24S8", rules::D24S8),
 ];
 
 /// Bytes of the patterns that are splatted.
@@ -366,7 +366,7 @@ impl Work {
     fn is_yuv_to_a8r8g8b8(&self) -> bool {
         match self {
             Self::Convert(from, to, WIDTH) | Self::ConvertSmooth(from, to) => {
-                paper::is_yuv(from.code) && to.code == A8R8G8B8
+                rules::is_yuv(from.code) && to.code == A8R8G8B8
             }
             _ => false,
         }
@@ -417,7 +417,7 @@ fn rgb_formats() -> impl Iterator<Item = &'static Format> {
 }
 
 fn yuv_formats() -> impl Iterator<Item = &'static Format> {
-    FORMATS.iter().filter(|format| paper::is_yuv(format.code))
+    FORMATS.iter().filter(|format| rules::is_yuv(format.code))
 }
 
 /// The routes of one work, in the order of COLUMNS; none in the place of one that refuses.
@@ -474,7 +474,7 @@ fn median(times: &mut [u128]) -> Option<f64> {
 fn frame_length(format: &Format) -> usize {
     match format.kind {
         Kind::PlanarYuv => {
-            let (_, [.., total]) = paper::planar_layout(format.code, WIDTH, HEIGHT);
+            let (_, [.., total]) = rules::planar_layout(format.code, WIDTH, HEIGHT);
             total as usize
         }
         _ => TEXELS * format.bytes,
@@ -502,7 +502,7 @@ fn smooth(format: &Format) -> Vec<u8> {
             row: row.into(),
             column: column.into(),
         };
-        let places = paper::sample(&region, format, texel).expect("a texel of YUV");
+        let places = rules::sample(&region, format, texel).expect("a texel of YUV");
         let luma = 56 + 72 * column / WIDTH + 72 * row / HEIGHT;
         let sample = [luma, 112 + 32 * column / WIDTH, 112 + 32 * row / HEIGHT];
         for (at, code) in places.into_iter().zip(sample) {
@@ -521,7 +521,7 @@ fn convert(src: &[u8], from: &Format, to: &Format, row: u32, set: Option<YuvSet>
     let region = whole_frame(row, height, width * from.bytes, width * to.bytes);
     let length = TEXELS * to.bytes;
     let (mut dst, originals) = (vec![0; length], ConvertRegion::from(&region));
-    let routes = if paper::is_added(from.code, to.code) {
+    let routes = if rules::original_refuses(from.code, to.code) {
         Routes::without_original()
     } else {
         Routes::original(move || {
@@ -599,8 +599,8 @@ fn unpack(code: u32) -> Numbers {
         let (mut depth, mut stencil) = (call.depth.clone(), call.stencil.clone());
         routes.ours(move || {
             let (depth, stencil) = (black_box(&mut depth), black_box(&mut stencil));
-            let (planes, packed) = (call.planes(), black_box(&call.packed));
-            let reply = port::unpack(code, &planes, packed, call.packed_pitch, depth, stencil);
+            let (planes, packed) = (&call.planes(), black_box(&call.packed));
+            let reply = port::unpack(depth, stencil, packed, call.packed_pitch, code, planes);
             assert_eq!(reply, 0);
         })
     };
@@ -623,8 +623,8 @@ fn pack(code: u32) -> Numbers {
         let mut packed = call.packed.clone();
         routes.ours(move || {
             let (depth, stencil) = (black_box(&call.depth), black_box(&call.stencil));
-            let (planes, packed) = (call.planes(), black_box(&mut packed));
-            let reply = port::pack(code, &planes, depth, stencil, packed, call.packed_pitch);
+            let (planes, packed) = (&call.planes(), black_box(&mut packed));
+            let reply = port::pack(packed, call.packed_pitch, depth, stencil, code, planes);
             assert_eq!(reply, 0);
         })
     };

@@ -1,12 +1,15 @@
 #!/usr/bin/env bash
-# Usage: build.sh [PROGRAM..]
+# Usage: build.sh [--by-rules] [PROGRAM..]
 # Builds the original Rust, unchanged, as the library `original`, and this folder's programs over it, in oracle/build/:
-# those named, or all. The source is the folder ORACLE_SRC, else ../shared/docs/src beside the repository's root; its
-# files lie below windows/core/src. Where there is none, one line says so and the exit status is 3. `compare`, `fuzz` and
+# those named, or all. The source is the folder ORACLE_SRC, else the one beside the repository that `source` below names;
+# its files lie below windows/core/src. Where there is none, one line says so and the exit status is 3. `compare`, `fuzz` and
 # a `bench` with the port's column need libwentuqis.a in the folder WENTUQIS_LIB_DIR, else in target/staticlib; without
 # it one line says so, which is a failure only where `compare` or `fuzz` is named. `record`, `compare` and `fuzz` need a
 # C compiler, cc, that has _Float16, as gcc has from version 12 on. What is newer than all that it is made from is left
-# as it is. With --where, only prints the source folder.
+# as it is. With --where, only prints the source folder. With --by-rules the original is not asked: stand_ins/original.rs,
+# which is docs/RULES.md as a program, is built in its place, and over it `compare` and `fuzz`, in oracle/build/by_rules/, and,
+# where it is named, `model`, which needs no archive and is built over nothing else.
+# ORACLE_TARGET then names another target of rustc's, with CC and NM for it; its programs are in by_rules-TARGET/.
 set -euo pipefail
 
 here=$(cd "$(dirname "${BASH_SOURCE[0]}")" && pwd)
@@ -20,8 +23,13 @@ archive=${WENTUQIS_LIB_DIR:-$(dirname "$here")/target/staticlib}/libwentuqis.a
 whole=(pixel_convert planar_yuv depth_texture)
 parts=(caps format convert stretch_rect)
 
-if [[ ! -d $source/windows/core/src ]]; then
-    echo "oracle: the original is absent: no windows/core/src in $source (ORACLE_SRC names another folder)" >&2
+by_rules=0
+if [[ ${1:-} == --by-rules ]]; then
+    by_rules=1 build=$build/by_rules${ORACLE_TARGET:+-$ORACLE_TARGET} source=$here/stand_ins
+    shift
+    if (($# == 0)); then set -- compare fuzz; fi
+elif [[ ! -d $source/windows/core/src ]]; then
+    echo "oracle: the original is absent: no windows/core/src in $source (oracle/README.md says how to get it, ORACLE_SRC names it)" >&2
     exit 3
 fi
 source=$(cd "$source" && pwd)
@@ -37,18 +45,25 @@ fail() {
 }
 
 command -v rustc >/dev/null || fail 'rustc is not on PATH'
-for name in "${whole[@]}" "${parts[@]}"; do
-    [[ -f $core/$name.rs ]] || fail "the original lacks $core/$name.rs"
-done
+if ((by_rules)); then
+    for name in "$@"; do
+        [[ $name == compare || $name == fuzz || $name == model ]] || fail "$name is not built by the rules alone"
+    done
+else
+    [[ " $* " != *' model '* ]] || fail 'model is built by the rules alone'
+    for name in "${whole[@]}" "${parts[@]}"; do
+        [[ -f $core/$name.rs ]] || fail "the original lacks $core/$name.rs"
+    done
+fi
 
 # Overflow checks are off, as in a release build. The sums of u32 texel coordinates in `convert_region` then wrap,
-# where document 01 refuses the texel: for such a region the document answers and not the original. A second build
-# with the checks on would turn each of these into a panic and so find them; it is not needed as long as the
-# comparisons decide them by the document's own rule.
+# where the rules refuse the texel: for such a region they answer and not the original.
 flags=(--edition 2024 -C opt-level=3 -C codegen-units=1 -C debug-assertions=off -C overflow-checks=off)
+cc=${CC:-cc}
+if ((by_rules)) && [[ -n ${ORACLE_TARGET:-} ]]; then flags+=(--target "$ORACLE_TARGET" -C "linker=$cc"); fi
 
 # Nothing made from another folder or by another compiler is kept.
-origin="$source, $(rustc --version), $(cc --version 2>/dev/null | head -n 1 || true)"
+origin="$source, $(rustc --version), $("$cc" --version 2>/dev/null | head -n 1 || true)"
 if [[ ! -f $build/origin || $(<"$build/origin") != "$origin" ]]; then
     rm -rf "$build"
     mkdir -p "$build"
@@ -83,40 +98,56 @@ cut_items() {
     mv -f "$build/unfinished/$name.rs" "$build/items/$name.rs"
 }
 
-if ! made "$build/cut" "$here/cut.rs"; then
-    compile "$build/cut" "$here/cut.rs"
-fi
-
-cut_items caps '' MAX_TEXTURE_DIM
-cut_items format '' linear_row_pitch
-cut_items convert 'use mtld3d_types::*;' \
-    d3dcolor_to_rgba_f32 splat_pixel_pattern d3dcolor_fill_pixel_bytes d3dcolor_luminance unorm8_to_nearest_code \
-    pack_a2_rgb10 unorm8_to_snorm8 unorm8_to_snorm16 unorm8_to_unorm16 f32_to_f16_bits narrow_f16
-cut_items stretch_rect 'use crate::planar_yuv::planar_yuv_layout_from_pitch; use mtld3d_types::*;' \
-    is_packed_yuv is_planar_yuv yuv_to_rgb8 decode_packed_yuv decode_planar_yuv
-
+# What the programs are compiled over.
 externs=(-L "dependency=$build")
-for name in mtld3d_types mtld3d_shared; do
-    if ! made "$build/lib$name.rlib" "$here/stand_ins/$name.rs"; then
-        compile "$build/lib$name.rlib" "$here/stand_ins/$name.rs" --crate-type rlib
-    fi
-    externs+=(--extern "$name=$build/lib$name.rlib")
-done
 
-files=("${parts[@]/#/$build/items/}" "${whole[@]/#/$core/}")
-files=("${files[@]/%/.rs}")
-root=$build/original.rs
-if ! made "$root"; then
-    {
-        # A format code that the stand-in lacks would become a pattern that matches all: these lints refuse it.
-        echo '#![deny(unreachable_patterns, unused_variables)]'
-        for file in "${files[@]}"; do
-            printf '#[path = r"%s"]\npub mod %s;\n' "$file" "$(basename "$file" .rs)"
-        done
-    } >"$root"
-fi
-if ! made "$build/liboriginal.rlib" "$root" "$build"/libmtld3d_{types,shared}.rlib "${files[@]}"; then
-    compile "$build/liboriginal.rlib" "$root" --crate-type rlib "${externs[@]}"
+# build_original: the library `original` from the original's own files, and what it imports.
+build_original() {
+    local name file files root=$build/original.rs
+    if ! made "$build/cut" "$here/cut.rs"; then
+        compile "$build/cut" "$here/cut.rs"
+    fi
+
+    cut_items caps '' MAX_TEXTURE_DIM
+    cut_items format '' linear_row_pitch
+    cut_items convert 'use mtld3d_types::*;' \
+        d3dcolor_to_rgba_f32 splat_pixel_pattern d3dcolor_fill_pixel_bytes d3dcolor_luminance unorm8_to_nearest_code \
+        pack_a2_rgb10 unorm8_to_snorm8 unorm8_to_snorm16 unorm8_to_unorm16 f32_to_f16_bits narrow_f16
+    cut_items stretch_rect 'use crate::planar_yuv::planar_yuv_layout_from_pitch; use mtld3d_types::*;' \
+        is_packed_yuv is_planar_yuv yuv_to_rgb8 decode_packed_yuv decode_planar_yuv
+
+    for name in mtld3d_types mtld3d_shared; do
+        if ! made "$build/lib$name.rlib" "$here/stand_ins/$name.rs"; then
+            compile "$build/lib$name.rlib" "$here/stand_ins/$name.rs" --crate-type rlib
+        fi
+        externs+=(--extern "$name=$build/lib$name.rlib")
+    done
+
+    files=("${parts[@]/#/$build/items/}" "${whole[@]/#/$core/}")
+    files=("${files[@]/%/.rs}")
+    if ! made "$root"; then
+        {
+            # A format code that the stand-in lacks would become a pattern that matches all: these lints refuse it.
+            echo '#![deny(unreachable_patterns, unused_variables)]'
+            # The stand-in of the rules alone has true here.
+            echo 'pub const BY_RULES: bool = false;'
+            for file in "${files[@]}"; do
+                printf '#[path = r"%s"]\npub mod %s;\n' "$file" "$(basename "$file" .rs)"
+            done
+        } >"$root"
+    fi
+    if ! made "$build/liboriginal.rlib" "$root" "$build"/libmtld3d_{types,shared}.rlib "${files[@]}"; then
+        compile "$build/liboriginal.rlib" "$root" --crate-type rlib "${externs[@]}"
+    fi
+}
+
+if ((by_rules)); then
+    sources=("$here"/stand_ins/original.rs "$here/rules.rs" "$crate/shapes.rs")
+    if ! made "$build/liboriginal.rlib" "${sources[@]}"; then
+        compile "$build/liboriginal.rlib" "${sources[0]}" --crate-type rlib
+    fi
+else
+    build_original
 fi
 externs+=(--extern "original=$build/liboriginal.rlib")
 
@@ -163,10 +194,11 @@ missing() {
 
 common=("$here/common.rs" "$crate/shapes.rs" "$build/liboriginal.rlib")
 program worked_table "${common[@]}" --
-recorded=("${common[@]}" "$here"/{answers,calls,paper,record_calls,sets,stills}.rs)
+recorded=("${common[@]}" "$here"/{answers,calls,record_calls,rules,sets,stills,wrong}.rs)
+if ((by_rules)); then program model "${recorded[@]}" "$here/drawn.rs" --; fi
 
 # A `bench` over another archive, or over none, is not kept.
-common+=("$here/paper.rs")
+common+=("$here/rules.rs")
 port=() missing=$(missing)
 if [[ -z $missing ]]; then
     common+=("$here/port.rs" "$crate/ffi.rs" "$archive")
@@ -184,16 +216,16 @@ float16=$build/libfloat16.so
 by_compiler=(-L "native=$build" -l dylib=float16 -C "link-arg=-Wl,-rpath,$build")
 if asked record compare fuzz && ! made "$float16" "$here/float16.c"; then
     echo 'oracle: building libfloat16.so'
-    cc -std=c11 -O2 -Wall -Wextra -Werror -fPIC -shared "$here/float16.c" -o "$build/unfinished/libfloat16.so" ||
-        fail 'cc did not build float16.c, which needs a compiler that has _Float16'
-    undefined=$(nm -D -u "$build/unfinished/libfloat16.so") || fail 'nm did not read libfloat16.so'
+    "$cc" -std=c11 -O2 -Wall -Wextra -Werror -fPIC -shared "$here/float16.c" -o "$build/unfinished/libfloat16.so" ||
+        fail "$cc did not build float16.c, which needs a compiler that has _Float16"
+    undefined=$("${NM:-nm}" -D -u "$build/unfinished/libfloat16.so") || fail 'nm did not read libfloat16.so'
     if [[ $undefined == *__trunc* ]]; then fail 'libfloat16.so has no conversion of its own'; fi
     mv -f "$build/unfinished/libfloat16.so" "$float16"
 fi
 program record "${recorded[@]}" "$float16" -- "${by_compiler[@]}"
 
 if [[ -z $missing ]]; then
-    common+=("$here"/{answers,calls,checks,findings,sets,stills}.rs "$float16")
+    common+=("$here"/{answers,calls,checks,drawn,findings,sets,stills}.rs "$float16")
     for name in compare fuzz; do
         program "$name" "${common[@]}" "$here"/parts/*.rs -- \
             --check-cfg 'cfg(port)' "${port[@]}" -C overflow-checks=on "${by_compiler[@]}"

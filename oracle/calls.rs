@@ -5,8 +5,8 @@
 use std::array;
 
 use crate::{
-    common::{Planes, Region, XorShift, YuvSet, random_bytes, random_units, whole_frame},
-    paper::{self, Conversion, FORMATS, Format, Kind, Transfer},
+    common::{Planes, Region, Side, XorShift, YuvSet, random_bytes, random_units, whole_frame},
+    rules::{self, Conversion, FORMATS, Format, Kind, Transfer},
 };
 
 /// A conversion with its buffers, by the call that takes a set of YUV numbers or by the one that
@@ -40,13 +40,13 @@ pub fn pairs() -> Vec<Pair> {
     FORMATS
         .iter()
         .flat_map(|from| FORMATS.iter().map(move |to| (from, to)))
-        .filter(|(from, to)| paper::can_convert(from.code, to.code))
+        .filter(|(from, to)| rules::can_convert(from.code, to.code))
         .collect()
 }
 
 /// Those of them whose source is YUV.
 pub fn yuv_pairs() -> Vec<Pair> {
-    let is_yuv = |(from, _): &Pair| paper::is_yuv(from.code);
+    let is_yuv = |(from, _): &Pair| rules::is_yuv(from.code);
     pairs().into_iter().filter(is_yuv).collect()
 }
 
@@ -95,7 +95,7 @@ impl ConvertCall {
             src_format: self.src_format,
             src_length: self.src.len(),
             region: &self.region,
-            set: self.set.unwrap_or(paper::BT601),
+            set: self.set.unwrap_or(rules::BT601),
         }
     }
 
@@ -109,7 +109,7 @@ impl ConvertCall {
 
     /// The set by which the source is read, if it is YUV and the call takes one.
     pub fn set_in_use(&self) -> Option<YuvSet> {
-        self.set.filter(|_| paper::is_yuv(self.src_format))
+        self.set.filter(|_| rules::is_yuv(self.src_format))
     }
 
     /// A frame of these source bytes, `width` texels a row, without padding.
@@ -161,21 +161,28 @@ impl ConvertCall {
         let dst_pitch = row_bytes(to, (dst_x + width) as usize) + padding(random, to);
         let src_rows = (src_y + height) as usize;
         let dst_rows = (dst_y + height) as usize;
+        let source = Side {
+            pitch: src_pitch,
+            slice_pitch: src_slice_pitch(random, from, src_pitch, src_rows),
+            x: src_x,
+            y: src_y,
+        };
+        let destination = Side {
+            pitch: dst_pitch,
+            slice_pitch: dst_pitch * dst_rows + padding(random, to),
+            x: dst_x,
+            y: dst_y,
+        };
+        let depth = match from.kind {
+            Kind::PlanarYuv => 1,
+            _ => depth as usize,
+        };
         let region = Region {
-            src_x,
-            src_y,
-            dst_x,
-            dst_y,
+            source,
+            destination,
+            depth,
             width,
             height,
-            src_pitch,
-            dst_pitch,
-            src_slice_pitch: src_slice_pitch(random, from, src_pitch, src_rows),
-            dst_slice_pitch: dst_pitch * dst_rows + padding(random, to),
-            depth: match from.kind {
-                Kind::PlanarYuv => 1,
-                _ => depth as usize,
-            },
         };
         Self::exact(random, from, to, region)
     }
@@ -197,17 +204,17 @@ impl ConvertCall {
             2 | 3 => resize(&mut self.dst, random),
             4 => self.src_format = any_code(random),
             5 => self.dst_format = any_code(random),
-            6 => change32(&mut region.src_x, random),
-            7 => change32(&mut region.src_y, random),
-            8 => change32(&mut region.dst_x, random),
-            9 => change32(&mut region.dst_y, random),
+            6 => change32(&mut region.source.x, random),
+            7 => change32(&mut region.source.y, random),
+            8 => change32(&mut region.destination.x, random),
+            9 => change32(&mut region.destination.y, random),
             10 => change32(&mut region.width, random),
             11 => change32(&mut region.height, random),
             12 => change64(&mut region.depth, random),
-            13 => change64(&mut region.src_pitch, random),
-            14 => change64(&mut region.dst_pitch, random),
-            _ if random.one_in(2) => change64(&mut region.src_slice_pitch, random),
-            _ => change64(&mut region.dst_slice_pitch, random),
+            13 => change64(&mut region.source.pitch, random),
+            14 => change64(&mut region.destination.pitch, random),
+            _ if random.one_in(2) => change64(&mut region.source.slice_pitch, random),
+            _ => change64(&mut region.destination.slice_pitch, random),
         }
     }
 }
@@ -220,28 +227,28 @@ pub const CHANGES: [fn(&mut ConvertCall); 10] = [
     |call| call.region.height = 0,
     |call| call.region.depth = 0,
     |call| call.region.depth += 1,
-    |call| call.region.src_pitch = 0,
-    |call| call.region.src_slice_pitch += 1,
-    |call| call.dst_format = paper::NV12,
+    |call| call.region.source.pitch = 0,
+    |call| call.region.source.slice_pitch += 1,
+    |call| call.dst_format = rules::NV12,
     |call| call.src.truncate(call.src.len() - 1),
     |call| call.dst.truncate(call.dst.len() - 1),
 ];
 
 /// A legal set whose numbers are those of a named one, ends of their ranges, and any inside.
 pub fn legal_set(random: &mut XorShift) -> YuvSet {
-    let mut numbers = paper::numbers(&random.pick(&NAMED));
-    for (number, [least, most]) in numbers.iter_mut().zip(paper::LEGAL) {
+    let mut numbers = rules::numbers(&random.pick(&NAMED));
+    for (number, [least, most]) in numbers.iter_mut().zip(rules::LEGAL) {
         match random.below(4) {
             0 => *number = random.pick(&[least, most]),
             1 => (),
             _ => *number = least + random.below(u64::from(most - least) + 1) as u32,
         }
     }
-    paper::set(numbers)
+    rules::set(numbers)
 }
 
 /// The sets that have names.
-const NAMED: [YuvSet; 2] = [paper::BT601, paper::BT709];
+const NAMED: [YuvSet; 2] = [rules::BT601, rules::BT709];
 
 /// A named set or another legal one, and once in three times up to three of its numbers changed.
 pub fn any_set(random: &mut XorShift) -> YuvSet {
@@ -250,11 +257,11 @@ pub fn any_set(random: &mut XorShift) -> YuvSet {
     } else {
         legal_set(random)
     };
-    let mut numbers = paper::numbers(&set);
+    let mut numbers = rules::numbers(&set);
     if random.one_in(3) {
         for _ in 0..1 + random.below(3) {
             let place = random.below(7) as usize;
-            let [least, most] = paper::LEGAL[place];
+            let [least, most] = rules::LEGAL[place];
             numbers[place] = match random.below(4) {
                 0 => least.wrapping_sub(1),
                 1 => most + 1,
@@ -262,21 +269,21 @@ pub fn any_set(random: &mut XorShift) -> YuvSet {
             };
         }
     }
-    paper::set(numbers)
+    rules::set(numbers)
 }
 
 /// Every set whose numbers are ends of their ranges.
 pub fn corner_sets() -> impl Iterator<Item = YuvSet> {
-    (0..1 << paper::LEGAL.len()).map(|corner: usize| {
-        let end = |place: usize| paper::LEGAL[place][corner >> place & 1];
-        paper::set(array::from_fn(end))
+    (0..1 << rules::LEGAL.len()).map(|corner: usize| {
+        let end = |place: usize| rules::LEGAL[place][corner >> place & 1];
+        rules::set(array::from_fn(end))
     })
 }
 
 /// Legal sets with numbers at the ends of their ranges: each number at each end, then all of them.
 pub fn sets_at_ends(random: &mut XorShift) -> Vec<YuvSet> {
     let mut sets = sets_with(random, |range| range.to_vec());
-    sets.extend([0, 1].map(|end| paper::set(paper::LEGAL.map(|range| range[end]))));
+    sets.extend([0, 1].map(|end| rules::set(rules::LEGAL.map(|range| range[end]))));
     sets
 }
 
@@ -291,11 +298,11 @@ pub fn sets_outside(random: &mut XorShift) -> Vec<YuvSet> {
 /// Legal sets, one number of each replaced: in every place by each that `others` has for its range.
 fn sets_with(random: &mut XorShift, others: fn([u32; 2]) -> Vec<u32>) -> Vec<YuvSet> {
     let mut sets = Vec::new();
-    for (place, range) in paper::LEGAL.into_iter().enumerate() {
+    for (place, range) in rules::LEGAL.into_iter().enumerate() {
         for other in others(range) {
-            let mut numbers = paper::numbers(&legal_set(random));
+            let mut numbers = rules::numbers(&legal_set(random));
             numbers[place] = other;
-            sets.push(paper::set(numbers));
+            sets.push(rules::set(numbers));
         }
     }
     sets
@@ -306,8 +313,8 @@ fn sets_with(random: &mut XorShift, others: fn([u32; 2]) -> Vec<u32>) -> Vec<Yuv
 fn src_slice_pitch(random: &mut XorShift, from: &Format, pitch: usize, rows: usize) -> usize {
     let luma_rows = rows + random.pick(&[0, 0, 1, 2]);
     match from.code {
-        paper::YV12 => pitch * luma_rows.next_multiple_of(2),
-        paper::NV12 => pitch * luma_rows,
+        rules::YV12 => pitch * luma_rows.next_multiple_of(2),
+        rules::NV12 => pitch * luma_rows,
         _ => pitch * rows + padding(random, from),
     }
 }
@@ -332,9 +339,9 @@ fn capped(length: u128) -> usize {
 
 /// The packed depth formats and their greatest codes.
 pub const DEPTHS: [(u32, u32); 3] = [
-    (paper::D16, 0xffff),
-    (paper::D24X8, 0xff_ffff),
-    (paper::D24S8, 0xff_ffff),
+    (rules::D16, 0xffff),
+    (rules::D24X8, 0xff_ffff),
+    (rules::D24S8, 0xff_ffff),
 ];
 
 impl DepthCall {
@@ -352,7 +359,7 @@ impl DepthCall {
     /// An accepted transfer of a size, with random padding. A format without stencil has a
     /// stencil plane of any length.
     pub fn accepted(random: &mut XorShift, format: u32, width: usize, height: usize) -> Self {
-        let row = width * paper::packed_bytes(format).expect("a packed depth format");
+        let row = width * rules::packed_bytes(format).expect("a packed depth format");
         let mut padding = || random.pick(&[0, 0, 1, 2, 4, 9]);
         let planes = Planes {
             width,
@@ -363,7 +370,7 @@ impl DepthCall {
         let packed_pitch = row + padding();
         let packed = (height - 1) * packed_pitch + row + padding();
         let depth = planes.depth_pitch * height + padding();
-        let stencil = if format == paper::D24S8 || padding() > 0 {
+        let stencil = if format == rules::D24S8 || padding() > 0 {
             planes.stencil_pitch * height + padding()
         } else {
             padding()

@@ -1,8 +1,8 @@
-//! One check for each call of the port: the reply against the documents (paper.rs); acceptance and
-//! every accepted byte against the original, or stills.rs for the pairs that document 02 adds, or
-//! sets.rs for its sets of YUV numbers (answers.rs), with BT601 against both; the binary16 code of
-//! every number, not of a NaN, against the C compiler's; that a refusal leaves every lent byte,
-//! that what is only read stays, and that nothing beside a lent buffer is written.
+//! One check for each call of the port: the reply against the rules (rules.rs); acceptance and every
+//! accepted byte against the original, or stills.rs for the pairs that it refuses, or sets.rs for
+//! sets of YUV numbers (answers.rs), with BT601 against both; the binary16 code of every number, not
+//! of a NaN, against the C compiler's; that a refusal leaves every lent byte, that what is only read
+//! stays, and that nothing beside a lent buffer is written.
 //!
 //! The original is not asked where its 32-bit coordinates or 64-bit offsets would wrap, of plane
 //! layouts with refusal 10 (docs/DIFFERENCES.md), and where it would not end soon.
@@ -26,10 +26,11 @@ use original::{convert, pixel_convert, stretch_rect};
 use crate::{
     answers,
     calls::{ConvertCall, DepthCall},
-    common::YuvSet,
+    common::{FillPixel, PlanarYuvLayout, Planes, YuvSet},
     findings::{Findings, Lent, bytes_text, format_text},
-    paper::{self, Layout},
-    port, sets, stills,
+    port,
+    rules::{self, Layout},
+    sets, stills,
 };
 
 /// Calls that pass over more texels than this are made only where a refusal or an empty region
@@ -81,22 +82,96 @@ fn ask<T>(asked: bool, call: impl FnOnce() -> T) -> Answer<T> {
     catch_unwind(AssertUnwindSafe(call)).map_or(Answer::Panicked, Answer::Gave)
 }
 
-/// Who answers: document 02 or the original.
-const fn whose(by_document: bool) -> &'static str {
-    if by_document {
-        "document 02's"
+/// Who answers: the rules, or the original where it is linked.
+const fn whose(by_rules: bool) -> &'static str {
+    if by_rules || original::BY_RULES {
+        "by the rules"
     } else {
         "the original's"
     }
 }
 
+/// Who answers where the rules do not go beyond the original.
+const ITS: &str = whose(false);
+
+/// A layout that a call hands back.
+trait HandedBack: Copy + PartialEq + From<u8> {
+    /// Its numbers, in the order of its fields.
+    fn numbers(self) -> [u64; 4];
+}
+
+impl HandedBack for Planes {
+    fn numbers(self) -> [u64; 4] {
+        [
+            self.width,
+            self.height,
+            self.depth_pitch,
+            self.stencil_pitch,
+        ]
+        .map(|it| it as u64)
+    }
+}
+
+impl From<u8> for Planes {
+    fn from(byte: u8) -> Self {
+        let number = byte.into();
+        Self {
+            width: number,
+            height: number,
+            depth_pitch: number,
+            stencil_pitch: number,
+        }
+    }
+}
+
+impl HandedBack for PlanarYuvLayout {
+    fn numbers(self) -> [u64; 4] {
+        [
+            self.pitch,
+            self.luma_rows,
+            self.chroma_rows,
+            self.total_bytes,
+        ]
+        .map(|it| it as u64)
+    }
+}
+
+impl From<u8> for PlanarYuvLayout {
+    fn from(byte: u8) -> Self {
+        let number = byte.into();
+        Self {
+            pitch: number,
+            luma_rows: number,
+            chroma_rows: number,
+            total_bytes: number,
+        }
+    }
+}
+
+impl From<u8> for FillPixel {
+    fn from(byte: u8) -> Self {
+        Self {
+            bytes: [byte; 16],
+            length: byte.into(),
+        }
+    }
+}
+
+impl From<u8> for YuvSet {
+    fn from(byte: u8) -> Self {
+        rules::set([byte.into(); 7])
+    }
+}
+
 /// A call of the port that gives red, green and blue of a sample.
-type ColourCall = extern "C" fn(u8, u8, u8, &mut [u8; 3]);
+type ColourCall = fn(u8, u8, u8, &mut [u8; 3]);
 
 /// These calls by name; the original's `yuv_to_rgb8` answers for each.
 const COLOURS: [(&str, ColourCall); 2] = [
-    ("yuv_to_rgb8", port::yuv_to_rgb8),
-    ("yuv_to_rgb8_by_tables", port::yuv_to_rgb8_by_tables),
+    ("yuv_to_rgb8", |y, u, v, rgb| port::yuv_to_rgb8(y, u, v, rgb)),
+    ("yuv_to_rgb8_by_tables", |y, u, v, rgb| {
+        port::yuv_to_rgb8_by_tables(y, u, v, rgb);
+    }),
 ];
 
 /// The port's reply to a conversion that is lent these buffers.
@@ -188,13 +263,13 @@ impl Checks {
             answers::pair(src, dst),
             pixel_convert::can_convert_update(src, dst),
         ];
-        let paper = [
-            paper::can_convert(src, dst),
-            paper::can_convert_update(src, dst),
+        let defined = [
+            rules::can_convert(src, dst),
+            rules::can_convert_update(src, dst),
         ];
-        let whose = whose(paper::is_added(src, dst));
+        let whose = whose(rules::original_refuses(src, dst));
         findings.equal("replies", ours, whose, answers);
-        findings.equal("replies", ours, "the documents'", paper);
+        findings.equal("replies", ours, "by the rules", defined);
         self.count("can_convert", 0, 1);
         self.count("can_convert_update", 0, 1);
         self.found(findings, || {
@@ -203,9 +278,9 @@ impl Checks {
     }
 
     pub fn convert_region(&mut self, call: &ConvertCall) {
-        let paper = call.conversion().reply();
+        let defined = call.conversion().reply();
         let many = answers::effort(&call.region) > MANY;
-        if many && paper == 0 && !paper::is_empty(&call.region) {
+        if many && defined == 0 && !rules::is_empty(&call.region) {
             return;
         }
         let (mut dst, src) = (self.lent(&call.dst), self.lent(&call.src));
@@ -217,35 +292,35 @@ impl Checks {
             *watched() = None;
         }
         let mut findings = Findings::default();
-        findings.reply(reply, paper);
+        findings.reply(reply, defined);
         findings.kept("src", &src, &call.src);
         findings.guards("dst", &dst);
-        if reply != 0 || paper::is_empty(&call.region) {
+        if reply != 0 || rules::is_empty(&call.region) {
             findings.kept("dst", &dst, &call.dst);
         }
         let stops = || !many || call.conversion().stops_among(LOOKED_AT);
-        let asked = answers::can_convert(call, paper, stops);
+        let asked = answers::can_convert(call, defined, stops);
         let answer = ask(asked, || answers::convert(call));
-        let by_document = answers::by_document(call);
+        let by_rules = answers::by_rules(call);
         if let Some(answer) = self.answer(answer, &mut findings) {
-            findings.converted(call, reply, &dst, whose(by_document), &answer);
+            findings.converted(call, reply, &dst, whose(by_rules), &answer);
         }
-        if asked && !by_document && call.set_in_use().is_some() {
+        if asked && !by_rules && call.set_in_use().is_some() {
             findings.converted(call, reply, &dst, whose(true), &sets::convert(call));
         }
         self.count(call.name(), reply, 1);
         self.found(findings, || call.text());
     }
 
-    /// Converts a frame without padding to A8R8G8B8, and holds every byte to document 02's limit:
-    /// of YUY2 with a legal set to 1/2 + 1/16384 of the value that the set's own numbers define, of
-    /// a source that it adds to 1/2 of what the channel means.
+    /// Converts a frame without padding to A8R8G8B8, and holds every byte to its limit: of YUY2 with
+    /// a legal set to 1/2 + 1/16384 of the value that the set's own numbers define, of a source that
+    /// the original refuses to 1/2 of what the channel means.
     pub fn near(&mut self, call: &ConvertCall) {
         let mut dst = call.dst.clone();
         let reply = port_reply(call, &mut dst, &call.src);
         let mut findings = Findings::default();
         findings.reply(reply, 0);
-        let from = paper::find(call.src_format).expect("a source");
+        let from = rules::find(call.src_format).expect("a source");
         let far = match &call.set {
             Some(set) => first_far([4, 8], &call.src, &dst, |macropixel, texels| {
                 sets::near(set, macropixel, texels)
@@ -264,49 +339,54 @@ impl Checks {
         self.found(findings, || call.text());
     }
 
-    /// Holds the numbers of the crate's named sets against the documents'.
+    /// Holds the sets that the library hands back, and the crate's constants, against the rules'.
     pub fn named_sets(&mut self) {
-        let mut findings = Findings::default();
-        let ours = [YuvSet::BT601, YuvSet::BT709];
-        findings.equal("sets", ours, "the documents'", [paper::BT601, paper::BT709]);
-        self.found(findings, || "YuvSet::BT601, YuvSet::BT709".to_string());
+        type SetCall = fn(&mut YuvSet);
+        let sets: [(&str, SetCall, YuvSet, YuvSet); 2] = [
+            ("bt601", |set| port::bt601(set), YuvSet::BT601, rules::BT601),
+            ("bt709", |set| port::bt709(set), YuvSet::BT709, rules::BT709),
+        ];
+        for (name, call, constant, defined) in sets {
+            let mut findings = Findings::default();
+            let mut set = self.lent(&[YuvSet::from(0x5a)]);
+            call(&mut set.lend()[0]);
+            findings.guards("set", &set);
+            findings.equal("set", set.content()[0], "by the rules", defined);
+            findings.equal("constant", constant, "by the rules", defined);
+            self.count(name, 0, 1);
+            self.found(findings, || name.to_string());
+        }
     }
 
     pub fn unpack(&mut self, call: &DepthCall) {
-        let paper = call.transfer().reply();
+        let defined = call.transfer().reply();
         let packed = self.lent(&call.packed);
         let (mut depth, mut stencil) = (self.lent(&call.depth), self.lent(&call.stencil));
         let reply = port::unpack(
-            call.format,
-            &call.planes,
-            packed.content(),
-            call.packed_pitch,
             depth.lend(),
             stencil.lend(),
+            packed.content(),
+            call.packed_pitch,
+            call.format,
+            &call.planes,
         );
         let mut findings = Findings::default();
-        findings.reply(reply, paper);
+        findings.reply(reply, defined);
         findings.kept("packed", &packed, &call.packed);
         if reply != 0 {
             findings.kept("depth", &depth, &call.depth);
             findings.kept("stencil", &stencil, &call.stencil);
         }
-        let original = ask(paper != 10, || answers::unpack(call));
+        let original = ask(defined != 10, || answers::unpack(call));
         if let Some((accepted, planes)) = self.answer(original, &mut findings) {
-            findings.equal("accepted", reply == 0, "the original's", accepted);
+            findings.equal("accepted", reply == 0, ITS, accepted);
             if reply == 0 && accepted {
-                let at = findings.same("depth", &depth, "the original's", &planes.0, &call.depth);
+                let at = findings.same("depth", &depth, ITS, &planes.0, &call.depth);
                 let pitch = call.planes.depth_pitch;
                 findings
                     .0
                     .extend(at.and_then(|at| call.pixel_text(at / pitch, at % pitch / 4)));
-                findings.same(
-                    "stencil",
-                    &stencil,
-                    "the original's",
-                    &planes.1,
-                    &call.stencil,
-                );
+                findings.same("stencil", &stencil, ITS, &planes.1, &call.stencil);
             }
         }
         self.count("unpack", reply, 1);
@@ -314,31 +394,31 @@ impl Checks {
     }
 
     pub fn pack(&mut self, call: &DepthCall) {
-        let paper = call.transfer().reply();
+        let defined = call.transfer().reply();
         let mut packed = self.lent(&call.packed);
         let (depth, stencil) = (self.lent(&call.depth), self.lent(&call.stencil));
         let reply = port::pack(
-            call.format,
-            &call.planes,
-            depth.content(),
-            stencil.content(),
             packed.lend(),
             call.packed_pitch,
+            depth.content(),
+            stencil.content(),
+            call.format,
+            &call.planes,
         );
         let mut findings = Findings::default();
-        findings.reply(reply, paper);
+        findings.reply(reply, defined);
         findings.kept("depth", &depth, &call.depth);
         findings.kept("stencil", &stencil, &call.stencil);
         if reply != 0 {
             findings.kept("packed", &packed, &call.packed);
         }
-        let original = ask(paper != 10, || answers::pack(call));
+        let original = ask(defined != 10, || answers::pack(call));
         if let Some((accepted, bytes)) = self.answer(original, &mut findings) {
-            findings.equal("accepted", reply == 0, "the original's", accepted);
+            findings.equal("accepted", reply == 0, ITS, accepted);
             if reply == 0 && accepted {
-                let at = findings.same("packed", &packed, "the original's", &bytes, &call.packed);
+                let at = findings.same("packed", &packed, ITS, &bytes, &call.packed);
                 let pitch = call.packed_pitch;
-                let bytes = paper::packed_bytes(call.format).unwrap_or(1);
+                let bytes = rules::packed_bytes(call.format).unwrap_or(1);
                 let text = at.and_then(|at| call.pixel_text(at / pitch, at % pitch / bytes));
                 findings.0.extend(text);
             }
@@ -353,25 +433,25 @@ impl Checks {
         let (mut depth, mut stencil) = (call.depth.clone(), call.stencil.clone());
         let replies = [
             port::unpack(
-                call.format,
-                &call.planes,
-                &call.packed,
-                call.packed_pitch,
                 &mut depth,
                 &mut stencil,
-            ),
-            port::pack(
+                &call.packed,
+                call.packed_pitch,
                 call.format,
                 &call.planes,
-                &depth,
-                &stencil,
+            ),
+            port::pack(
                 &mut into,
                 pitch,
+                &depth,
+                &stencil,
+                call.format,
+                &call.planes,
             ),
         ];
         let mut findings = Findings::default();
-        findings.equal("replies", replies, "document 01's", [0, 0]);
-        let row = call.planes.width * paper::packed_bytes(call.format).unwrap_or(0);
+        findings.equal("replies", replies, "by the rules", [0, 0]);
+        let row = call.planes.width * rules::packed_bytes(call.format).unwrap_or(0);
         let restored = (0..call.planes.height).position(|y| {
             let (from, to) = (y * call.packed_pitch, y * pitch);
             call.packed[from..from + row] != into[to..to + row]
@@ -386,51 +466,60 @@ impl Checks {
     }
 
     pub fn plane_layout(&mut self, width: u32, height: u32, alignment: u32) {
-        let paper = paper::plane_layout(width, height, alignment);
+        let defined = rules::plane_layout(width, height, alignment);
         let original = answers::plane_layout(width, height, alignment);
-        let call = |layout: &mut _| port::plane_layout(width, height, alignment, layout);
+        let call = |layout: &mut Planes| port::plane_layout(width, height, alignment, layout);
         let text = format_args!("width {width}, height {height}, alignment {alignment}");
-        self.layout("plane_layout", text, call, paper, original);
+        self.layout("plane_layout", text, call, defined, original);
     }
 
     pub fn planar_layout(&mut self, format: u32, width: u32, height: u32) {
-        let paper = paper::planar_layout(format, width, height);
+        let defined = rules::planar_layout(format, width, height);
         let original = answers::planar_layout(format, width, height);
-        let call = |layout: &mut _| port::planar_yuv_layout(format, width, height, layout);
+        let call =
+            |layout: &mut PlanarYuvLayout| port::planar_yuv_layout(format, width, height, layout);
         let text = format_args!("{}, width {width}, height {height}", format_text(format));
-        self.layout("planar_yuv_layout", text, call, paper, original);
+        self.layout("planar_yuv_layout", text, call, defined, original);
     }
 
     pub fn planar_layout_from_pitch(&mut self, format: u32, pitch: usize, luma_rows: usize) {
-        let paper = paper::planar_layout_from_pitch(format, pitch, luma_rows);
+        let defined = rules::planar_layout_from_pitch(format, pitch, luma_rows);
         let original = answers::planar_layout_from_pitch(format, pitch, luma_rows);
-        let call =
-            |layout: &mut _| port::planar_yuv_layout_from_pitch(format, pitch, luma_rows, layout);
+        let call = |layout: &mut PlanarYuvLayout| {
+            port::planar_yuv_layout_from_pitch(format, pitch, luma_rows, layout)
+        };
         let text = format_args!(
             "{}, pitch {pitch}, luma rows {luma_rows}",
             format_text(format)
         );
-        self.layout("planar_yuv_layout_from_pitch", text, call, paper, original);
+        self.layout(
+            "planar_yuv_layout_from_pitch",
+            text,
+            call,
+            defined,
+            original,
+        );
     }
 
-    /// A call that hands back a layout, which is held against document 01's and the original's.
-    fn layout(
+    /// A call that hands back a layout, which is held against the rules' and the original's.
+    fn layout<T: HandedBack>(
         &mut self,
         call: &'static str,
         text: std::fmt::Arguments,
-        ours: impl FnOnce(&mut [u64; 4]) -> u32,
-        paper: Layout,
+        ours: impl FnOnce(&mut T) -> u32,
+        defined: Layout,
         original: Option<[u64; 4]>,
     ) {
-        let mut layout = self.lent(&[u64::MAX / 3; 4]);
-        let reply = ours(layout.lend().try_into().expect("four numbers"));
+        let mut layout = self.lent(&[T::from(0x5a)]);
+        let reply = ours(&mut layout.lend()[0]);
         let mut findings = Findings::default();
-        findings.reply(reply, paper.0);
+        findings.reply(reply, defined.0);
         findings.guards("layout", &layout);
-        findings.equal("layout", layout.content(), "document 01's", &paper.1);
-        findings.equal("accepted", reply == 0, "the original's", original.is_some());
+        let numbers = layout.content()[0].numbers();
+        findings.equal("layout", numbers, "by the rules", defined.1);
+        findings.equal("accepted", reply == 0, ITS, original.is_some());
         if let Some(original) = original {
-            findings.equal("layout", layout.content(), "the original's", &original);
+            findings.equal("layout", numbers, ITS, original);
         }
         self.count(call, reply, 1);
         self.found(findings, || format!("{call}: {text}"));
@@ -438,20 +527,18 @@ impl Checks {
 
     pub fn fill(&mut self, color: u32, format: u32) {
         let original = convert::d3dcolor_fill_pixel_bytes(color, format);
-        let (mut bytes, mut length) = (self.lent(&[0x5a_u8; 16]), self.lent(&[u32::MAX]));
-        let lent = bytes.lend().try_into().expect("sixteen bytes");
-        let reply = port::d3dcolor_fill_pixel_bytes(color, format, lent, &mut length.lend()[0]);
+        let mut fill = self.lent(&[FillPixel::from(0x5a)]);
+        let reply = port::d3dcolor_fill_pixel_bytes(color, format, &mut fill.lend()[0]);
         let mut findings = Findings::default();
-        findings.reply(reply, paper::fill(format));
-        findings.equal("accepted", reply == 0, "the original's", original.is_some());
-        findings.guards("bytes", &bytes);
-        findings.guards("length", &length);
+        findings.reply(reply, rules::fill(format));
+        findings.equal("accepted", reply == 0, ITS, original.is_some());
+        findings.guards("fill", &fill);
         let pixel = original.unwrap_or_default();
         let mut padded = [0; 16];
         padded[..pixel.len()].copy_from_slice(&pixel);
-        let (ours, original) = (length.content()[0], pixel.len() as u32);
-        findings.equal("length", ours, "the original's", original);
-        findings.equal_bits("bytes", bytes.content(), &padded);
+        let ours = fill.content()[0];
+        findings.equal("length", ours.length, ITS, pixel.len() as u32);
+        findings.equal_bits("bytes", ours.bytes, ITS, padded);
         self.count("d3dcolor_fill_pixel_bytes", reply, 1);
         self.found(findings, || {
             format!("d3dcolor_fill_pixel_bytes: color {color:08X}, format {format}")
@@ -464,7 +551,7 @@ impl Checks {
         let (mut ours, pattern) = (self.lent(dst), self.lent(pixel));
         port::splat_pixel_pattern(ours.lend(), pattern.content());
         let mut findings = Findings::default();
-        findings.same("dst", &ours, "the original's", &original, dst);
+        findings.same("dst", &ours, ITS, &original, dst);
         findings.kept("pixel", &pattern, pixel);
         self.count("splat_pixel_pattern", 0, 1);
         self.found(findings, || {
@@ -481,7 +568,7 @@ impl Checks {
         findings.guards("rgba", &rgba);
         let ours: Vec<u32> = rgba.content().iter().map(|it| it.to_bits()).collect();
         let original = convert::d3dcolor_to_rgba_f32(color).map(f32::to_bits);
-        findings.equal_bits("bits", &ours[..], &original);
+        findings.equal_bits("bits", &ours[..], ITS, &original);
         self.count("d3dcolor_to_rgba_f32", 0, 1);
         self.found(findings, || format!("d3dcolor_to_rgba_f32: {color:08X}"));
     }
@@ -493,13 +580,13 @@ impl Checks {
             let ours = port::f32_to_f16_bits(bits);
             let value = f32::from_bits(bits);
             let original = convert::f32_to_f16_bits(value);
-            // Where document 02 departs from it, the original has the signed zero.
-            let faint = paper::is_faint(bits);
+            // In that interval the original has the signed zero, and the rules have not.
+            let faint = !original::BY_RULES && rules::is_faint(bits);
             let wanted = if faint { ours & 0x8000 } else { ours };
             let compiler = answers::compiler_f32_to_f16_bits(bits);
             if original != wanted || compiler != ours && !value.is_nan() {
                 let line = format!(
-                    "ours {ours:04X}, the original's {original:04X}, the C compiler's {compiler:04X}"
+                    "ours {ours:04X}, {ITS} {original:04X}, the C compiler's {compiler:04X}"
                 );
                 let describe = || format!("f32_to_f16_bits: {bits:08X}");
                 self.found(Findings(vec![line]), describe);
@@ -520,7 +607,7 @@ impl Checks {
                 *rgb = [!r, !g, !b];
                 call(luma, cb, cr, rgb);
                 if *rgb != [r, g, b] {
-                    let line = format!("ours {rgb:?}, the original's {:?}", [r, g, b]);
+                    let line = format!("ours {rgb:?}, {ITS} {:?}", [r, g, b]);
                     let describe = || format!("{name}: {luma}, {cb}, {cr}");
                     self.found(Findings(vec![line]), describe);
                 }

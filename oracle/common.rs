@@ -1,21 +1,15 @@
 //! Shared by the programs of this folder, each of which uses a part: the random numbers, regions,
-//! sets and planes (plain numbers, by the declarations of the crate in rust/), conversions of one
-//! texel by the original, frames of random texels.
-#![allow(dead_code)]
+//! sets, planes and what is handed back (the structs that cross, by the declarations of the crate in
+//! rust/), conversions of one texel by the original, frames of random texels.
+#![allow(dead_code, unused_imports)]
 
 #[path = "../rust/src/shapes.rs"]
 pub mod shapes;
 
 use original::pixel_convert::{ConvertRegion, convert_region};
 
-/// A region to convert, of any numbers.
-pub type Region = shapes::ConvertRegion;
-
-/// A set of YUV numbers, of any numbers.
-pub type YuvSet = shapes::YuvSet;
-
-/// The layout of a depth and a stencil plane, of any numbers.
-pub type Planes = shapes::PlaneLayout;
+/// The structs that cross, of any numbers; `Planes` is the layout of a depth and a stencil plane.
+pub use shapes::{FillPixel, PlanarYuvLayout, PlaneLayout as Planes, Region, Side, YuvSet};
 
 /// Marsaglia's xorshift generator of 64 bits, shifts 13, 7 and 17.
 pub struct XorShift(u64);
@@ -73,16 +67,16 @@ impl XorShift {
 impl From<&Region> for ConvertRegion {
     fn from(region: &Region) -> Self {
         Self {
-            src_x: region.src_x,
-            src_y: region.src_y,
-            dst_x: region.dst_x,
-            dst_y: region.dst_y,
+            src_x: region.source.x,
+            src_y: region.source.y,
+            dst_x: region.destination.x,
+            dst_y: region.destination.y,
             width: region.width,
             height: region.height,
-            src_pitch: region.src_pitch,
-            dst_pitch: region.dst_pitch,
-            src_slice_pitch: region.src_slice_pitch,
-            dst_slice_pitch: region.dst_slice_pitch,
+            src_pitch: region.source.pitch,
+            dst_pitch: region.destination.pitch,
+            src_slice_pitch: region.source.slice_pitch,
+            dst_slice_pitch: region.destination.slice_pitch,
             depth: region.depth,
         }
     }
@@ -93,17 +87,19 @@ impl From<&Region> for ConvertRegion {
 /// Its source slice is `height` rows, which for a planar source is the number of luma rows.
 pub const fn whole_frame(width: u32, height: u32, src_pitch: usize, dst_pitch: usize) -> Region {
     Region {
-        src_x: 0,
-        src_y: 0,
-        dst_x: 0,
-        dst_y: 0,
-        width,
-        height,
-        src_pitch,
-        dst_pitch,
-        src_slice_pitch: src_pitch * height as usize,
-        dst_slice_pitch: dst_pitch * height as usize,
-        depth: 1,
+        source: rows(src_pitch, height),
+        destination: rows(dst_pitch, height),
+        ..Region::new(width, height)
+    }
+}
+
+/// A side of so many rows from its first byte on.
+const fn rows(pitch: usize, height: u32) -> Side {
+    Side {
+        pitch,
+        slice_pitch: pitch * height as usize,
+        x: 0,
+        y: 0,
     }
 }
 

@@ -1,5 +1,5 @@
 //! Usage: compare [--seed N] [--all] [PART..]
-//! Compares the port with the documents' replies and with the original, part by part: the named
+//! Compares the port with the rules' replies and with the original, part by part: the named
 //! parts, or all. With --all also the exhaustive forms, which take minutes. Every part draws its
 //! own random numbers, so that a seed gives the same cases whichever parts run. The exit status is
 //! 1 if anything differs.
@@ -9,7 +9,7 @@ mod calls;
 mod checks;
 mod common;
 mod findings;
-mod paper;
+mod rules;
 mod parts {
     pub mod convert;
     pub mod depth;

@@ -4,7 +4,7 @@ use std::fmt::{Debug, Write};
 
 use crate::{
     calls::{ConvertCall, DepthCall},
-    paper::{self, Kind},
+    rules::{self, Kind},
 };
 
 /// A buffer that is lent: the middle of a block, between guards, or a block of its own.
@@ -59,8 +59,8 @@ impl<T: Copy + PartialEq + From<u8>> Lent<T> {
 pub struct Findings(pub Vec<String>);
 
 impl Findings {
-    pub fn reply(&mut self, ours: u32, paper: u32) {
-        self.equal("reply", ours, "the documents'", paper);
+    pub fn reply(&mut self, ours: u32, defined: u32) {
+        self.equal("reply", ours, "by the rules", defined);
     }
 
     /// A value that ours must equal.
@@ -71,10 +71,10 @@ impl Findings {
         }
     }
 
-    /// The same of the original's, told in hexadecimal.
-    pub fn equal_bits<T: PartialEq + Debug>(&mut self, name: &str, ours: T, original: T) {
-        if ours != original {
-            let line = format!("{name}: ours {ours:02X?}, the original's {original:02X?}");
+    /// The same, told in hexadecimal.
+    pub fn equal_bits<T: PartialEq + Debug>(&mut self, name: &str, ours: T, whose: &str, other: T) {
+        if ours != other {
+            let line = format!("{name}: ours {ours:02X?}, {whose} {other:02X?}");
             self.0.push(line);
         }
     }
@@ -154,7 +154,7 @@ pub fn bytes_text(bytes: &[u8]) -> String {
 
 /// A format's name, or its code.
 pub fn format_text(code: u32) -> String {
-    paper::find(code).map_or_else(|| format!("code {code}"), |it| it.name.to_string())
+    rules::find(code).map_or_else(|| format!("code {code}"), |it| it.name.to_string())
 }
 
 impl ConvertCall {
@@ -170,21 +170,21 @@ impl ConvertCall {
     /// The source bytes of the texel that has byte `at` of the destination, where the source is
     /// too long to be shown whole.
     pub fn texel_text(&self, at: usize) -> Option<String> {
-        let (from, to) = (paper::find(self.src_format)?, paper::find(self.dst_format)?);
+        let (from, to) = (rules::find(self.src_format)?, rules::find(self.dst_format)?);
         let region = &self.region;
         if self.src.len() <= SHOWN || region.depth != 1 || from.kind == Kind::PlanarYuv {
             return None;
         }
-        let y = at.checked_div(region.dst_pitch)?;
-        let x = at % region.dst_pitch / to.bytes;
-        let row = y.checked_sub(region.dst_y as usize)?;
-        let column = x.checked_sub(region.dst_x as usize)?;
-        let source_x = region.src_x as usize + column;
+        let y = at.checked_div(region.destination.pitch)?;
+        let x = at % region.destination.pitch / to.bytes;
+        let row = y.checked_sub(region.destination.y as usize)?;
+        let column = x.checked_sub(region.destination.x as usize)?;
+        let source_x = region.source.x as usize + column;
         let (offset, bytes) = match from.kind {
             Kind::PackedYuv => (source_x / 2 * 4, 4),
             _ => (source_x * from.bytes, from.bytes),
         };
-        let start = (region.src_y as usize + row) * region.src_pitch + offset;
+        let start = (region.source.y as usize + row) * region.source.pitch + offset;
         let texel = bytes_text(self.src.get(start..start + bytes)?);
         Some(format!("row {row}, column {column}: source {texel}"))
     }
@@ -203,7 +203,7 @@ impl DepthCall {
 
     /// A pixel's packed bytes and depth, where these are too many to be shown whole.
     pub fn pixel_text(&self, row: usize, column: usize) -> Option<String> {
-        let bytes = paper::packed_bytes(self.format)?;
+        let bytes = rules::packed_bytes(self.format)?;
         let packed = row * self.packed_pitch + column * bytes;
         let depth = row * self.planes.depth_pitch + column * 4;
         if self.depth.len() <= SHOWN {

@@ -1,5 +1,5 @@
 /* The C compiler's own conversion of binary32 to binary16, bits to bits: it stands behind neither the original nor the
- * port, and judges the port where document 02 departs from the original. build.sh makes a library of it. */
+ * port, and judges the port where it departs from the original. build.sh makes a library of it. */
 #include <stdint.h>
 #include <string.h>
 

@@ -1,7 +1,6 @@
 //! Usage: fuzz SECONDS [SEED]
-//! Makes calls of the port for so many seconds: damaged copies of accepted ones, each with up to
-//! three lengths, pitches, codes or sizes changed, and up to three numbers of a set of YUV numbers,
-//! and checks each as `compare` does. Every lent buffer is a heap block of its own and no byte
+//! Makes calls of the port for so many seconds, damaged copies of accepted ones (drawn.rs), and
+//! checks each as `compare` does. Every lent buffer is a heap block of its own and no byte
 //! longer than lent, so that under valgrind an access past it is seen. Without SEED the clock gives
 //! one. The exit status is 1 if anything differs.
 
@@ -9,9 +8,10 @@ mod answers;
 mod calls;
 mod checks;
 mod common;
+mod drawn;
 mod findings;
-mod paper;
 mod port;
+mod rules;
 mod sets;
 mod stills;
 
@@ -20,13 +20,9 @@ use std::{
     time::{Duration, Instant, SystemTime},
 };
 
-use calls::{
-    ConvertCall, DepthCall, Pair, any_code, any_set, any32, any64, change32, pairs, resize,
-    yuv_pairs,
-};
 use checks::Checks;
-use common::{XorShift, random_bytes};
-use paper::{NV12, YV12};
+use common::XorShift;
+use drawn::{Call, Draw};
 
 fn main() -> ExitCode {
     let words: Vec<String> = std::env::args().skip(1).collect();
@@ -36,11 +32,13 @@ fn main() -> ExitCode {
     };
     println!("seed 0x{seed:016X}");
     checks::watch();
-    let (mut random, mut checks) = (XorShift::from_seed(seed), Checks::new(false));
-    let (pairs, yuv_pairs, start) = (pairs(), yuv_pairs(), Instant::now());
+    let mut draw = Draw::new(XorShift::from_seed(seed), usize::MAX);
+    let (mut checks, start) = (Checks::new(false), Instant::now());
     while start.elapsed() < time {
         for _ in 0..64 {
-            call(&mut checks, &mut random, [&pairs, &yuv_pairs]);
+            for call in draw.next() {
+                check(&mut checks, call);
+            }
         }
     }
     print(&checks);
@@ -65,106 +63,41 @@ fn clock() -> u64 {
     now.map_or(0, |now| now.as_nanos() as u64)
 }
 
-/// One call, or a few of the shortest ones.
-fn call(checks: &mut Checks, random: &mut XorShift, [pairs, yuv_pairs]: [&[Pair]; 2]) {
-    match random.below(15) {
-        0..5 => checks.convert_region(&conversion(random, pairs)),
-        5..8 => {
-            let pairs = random.pick(&[pairs, yuv_pairs]);
-            let mut call = conversion(random, pairs);
-            call.set = Some(any_set(random));
-            checks.convert_region(&call);
+/// Makes a call and checks it.
+fn check(checks: &mut Checks, call: Call) {
+    match call {
+        Call::CanConvert { src, dst } => checks.can_convert(src, dst),
+        Call::Colour(sample) => checks.triples([sample]),
+        Call::Convert(call) => checks.convert_region(&call),
+        Call::Fill { color, format } => checks.fill(color, format),
+        Call::Half(bits) => checks.halves([bits]),
+        Call::NamedSets => checks.named_sets(),
+        Call::Pack(call) => checks.pack(&call),
+        Call::PlanarLayout {
+            format,
+            width,
+            height,
+        } => {
+            checks.planar_layout(format, width, height);
         }
-        8 => checks.unpack(&transfer(random)),
-        9 => checks.pack(&transfer(random)),
-        10 => plane_layout(checks, random),
-        11 => planar_layouts(checks, random),
-        12 => fill(checks, random),
-        13 => splat(checks, random),
-        _ => numbers(checks, random),
-    }
-}
-
-fn conversion(random: &mut XorShift, pairs: &[Pair]) -> ConvertCall {
-    let mut call = ConvertCall::any(random, pairs);
-    for _ in 0..random.below(4) {
-        call.damage(random);
-    }
-    call
-}
-
-fn transfer(random: &mut XorShift) -> DepthCall {
-    let mut call = DepthCall::any(random);
-    for _ in 0..random.below(4) {
-        call.damage(random);
-    }
-    call
-}
-
-fn plane_layout(checks: &mut Checks, random: &mut XorShift) {
-    let mut sizes = [
-        1 + random.next_u32() % 20_000,
-        1 + random.next_u32() % 20_000,
-    ];
-    let mut alignment = 1 << random.below(12);
-    for size in &mut sizes {
-        if random.one_in(2) {
-            change32(size, random);
+        Call::PlanarLayoutFromPitch {
+            format,
+            pitch,
+            luma_rows,
+        } => {
+            checks.planar_layout_from_pitch(format, pitch, luma_rows);
         }
-    }
-    if random.one_in(2) {
-        change32(&mut alignment, random);
-    }
-    checks.plane_layout(sizes[0], sizes[1], alignment);
-}
-
-fn planar_layouts(checks: &mut Checks, random: &mut XorShift) {
-    let format = if random.one_in(4) {
-        any_code(random)
-    } else {
-        random.pick(&[YV12, NV12])
-    };
-    let mut sizes = [
-        1 + random.next_u32() % 16_384,
-        1 + random.next_u32() % 10_923,
-    ];
-    for size in &mut sizes {
-        if random.one_in(2) {
-            change32(size, random);
+        Call::PlaneLayout {
+            width,
+            height,
+            alignment,
+        } => {
+            checks.plane_layout(width, height, alignment);
         }
+        Call::Rgba(color) => checks.rgba(color),
+        Call::Splat { dst, pixel } => checks.splat(&dst, &pixel),
+        Call::Unpack(call) => checks.unpack(&call),
     }
-    checks.planar_layout(format, sizes[0], sizes[1]);
-    let mut sizes = sizes.map(|size| size as usize);
-    if random.one_in(4) {
-        sizes[random.below(2) as usize] = any64(random) as usize;
-    }
-    checks.planar_layout_from_pitch(format, sizes[0], sizes[1]);
-}
-
-fn fill(checks: &mut Checks, random: &mut XorShift) {
-    let color = random.next_u32();
-    checks.fill(color, any_code(random));
-    checks.rgba(color);
-}
-
-fn splat(checks: &mut Checks, random: &mut XorShift) {
-    let (texels, bytes) = (random.below(60) as usize, random.pick(&[1, 2, 3, 4, 8, 16]));
-    let mut pixel = random_bytes(random, bytes);
-    let mut dst = random_bytes(random, texels * bytes);
-    for bytes in [&mut pixel, &mut dst] {
-        if random.one_in(2) {
-            resize(bytes, random);
-        }
-    }
-    checks.splat(&dst, &pixel);
-}
-
-/// The calls that take numbers alone and refuse nothing.
-fn numbers(checks: &mut Checks, random: &mut XorShift) {
-    checks.can_convert(any_code(random), any_code(random));
-    checks.halves([random.next_u32(), any32(random)]);
-    let [luma, cb, cr, _] = random.next_u32().to_le_bytes();
-    checks.triples([[luma, cb, cr]]);
 }
 
 /// A line for each call and reply, then the first differences in full.

@@ -3,16 +3,18 @@
 //! of channels, as records of four little-endian 32-bit words: call, a, b, answer; `values`,
 //! `buffers` and `sets` have every public call (record_calls.rs). README.md lists the calls. Every
 //! answer comes from a public function of the original, and from stills.rs, sets.rs or the C
-//! compiler where document 02 departs from them; where several lanes or formats show the same
-//! arithmetic, they must agree.
+//! compiler where the port departs from the original; where several lanes or formats show the same
+//! arithmetic, they must agree. Three more files, `wrong_vectors`, `wrong_values` and
+//! `wrong_buffers`, have records of these in which one part of the answer is changed (wrong.rs).
 
 mod answers;
 mod calls;
 mod common;
-mod paper;
 mod record_calls;
+mod rules;
 mod sets;
 mod stills;
+mod wrong;
 
 use std::{path::Path, process::ExitCode};
 
@@ -20,8 +22,8 @@ use calls::{CLASSES, ConvertCall, both_signs, merged, tie};
 use common::{XorShift, convert_texel, whole_frame};
 use mtld3d_types::*;
 use original::{convert::d3dcolor_fill_pixel_bytes, format::linear_row_pitch};
-use paper::{FORMATS, Kind};
 use record_calls::{BUFFERS, Recorder, SETS, VALUES};
+use rules::{FORMATS, Kind};
 
 /// Records of one call: a, b, answer.
 type Sample = Vec<[u32; 3]>;
@@ -64,11 +66,17 @@ fn main() -> ExitCode {
         return ExitCode::FAILURE;
     };
     println!("seed {:016X}", XorShift::SEED);
+    let (vectors, values, buffers, sets) =
+        (vectors(), public(&VALUES), public(&BUFFERS), public(&SETS));
+    let lent = [&buffers[..], &sets[..]].concat();
     let files = [
-        ("vectors", vectors()),
-        ("values", public(&VALUES)),
-        ("buffers", public(&BUFFERS)),
-        ("sets", public(&SETS)),
+        ("wrong_vectors", wrong::wrong(&vectors, 16)),
+        ("wrong_values", wrong::wrong(&values, 64)),
+        ("wrong_buffers", wrong::wrong(&lent, 512)),
+        ("vectors", vectors),
+        ("values", values),
+        ("buffers", buffers),
+        ("sets", sets),
     ];
     for (name, file) in files {
         println!("{name}: {} bytes", file.len());
@@ -345,7 +353,7 @@ fn bytes_a_texel(format: u32) -> u32 {
     least.expect("a format that converts") as u32
 }
 
-/// The nearest bytes to 255 × code / max, which document 02 asks for: of every code of two and of
+/// The nearest bytes to 255 × code / max, which the original has no call for: of every code of two and of
 /// ten bits, and of eight bits with a sign.
 fn nearest_bytes() -> Sample {
     let record = |code, part, max| [code, max, stills::nearest(part, max).into()];

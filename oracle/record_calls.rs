@@ -5,12 +5,14 @@
 //! `buffers` and `sets`, 512 bytes: the call's number and 1 for a refusal, fifteen parameters, five
 //! areas.
 //!
-//! The original decides acceptance and every byte of an accepted call; for the pairs that document
-//! 02 adds, paper.rs and stills.rs do, for sets of YUV numbers other than BT601 paper.rs and
+//! The original decides acceptance and every byte of an accepted call; for the pairs that it
+//! refuses and the port converts, rules.rs and stills.rs do, for sets of YUV numbers other than BT601 rules.rs and
 //! sets.rs, and for binary16 between 2^-25 and 2^-24 the C compiler (float16.c). After a refusal
 //! every lent byte is what it was and what is handed back is zero, which is the port's rule
 //! (docs/DIFFERENCES.md). Left out: what the original would wrap or panic at, what it would accept
-//! of a plane layout that has refusal 10, and what does not fit in an area.
+//! of a plane layout that has refusal 10, and what does not fit in an area. Over the stand-in of the rules
+//! alone nothing is left out but what does not fit.
+#![allow(dead_code)]
 
 use original::{convert, pixel_convert, stretch_rect};
 
@@ -21,7 +23,7 @@ use crate::{
         both_signs, legal_set, listed_codes, near_tie, pairs, sets_at_ends, sets_outside,
     },
     common::{Region, XorShift, YuvSet, random_bytes, whole_frame},
-    paper::{self, BT601, BT709, FORMATS, Format, Kind, NV12, YV12, named},
+    rules::{self, BT601, BT709, FORMATS, Format, Kind, NV12, YV12, named},
 };
 
 /// A call's number and name, and how its cases are recorded.
@@ -59,7 +61,7 @@ pub const BUFFERS: [Call; 4] = [
 pub const SETS: [Call; 1] = [(30, "convert_region_with_set", conversions_with_set)];
 
 /// The bytes of an area, and so the longest buffer that is lent.
-const AREA: usize = 72;
+pub const AREA: usize = 72;
 
 /// The parameters of a call that is lent buffers.
 const PARAMETERS: usize = 15;
@@ -70,7 +72,9 @@ const MANY: u128 = 1 << 12;
 /// The records of one call.
 pub struct Recorder {
     pub random: XorShift,
-    call: u32,
+    pub call: u32,
+    /// What a refusal is recorded by: 1, since its number is the port's own.
+    pub refusal: u32,
     pub records: Vec<u8>,
     pub count: usize,
     pub refused: usize,
@@ -81,6 +85,7 @@ impl Recorder {
         Self {
             random,
             call,
+            refusal: 1,
             records: Vec::new(),
             count: 0,
             refused: 0,
@@ -90,13 +95,13 @@ impl Recorder {
     fn head(&mut self, accepted: bool) {
         self.count += 1;
         self.refused += usize::from(!accepted);
-        let words = [self.call, u32::from(!accepted)];
+        let words = [self.call, if accepted { 0 } else { self.refusal }];
         self.records
             .extend(words.map(u32::to_le_bytes).as_flattened());
     }
 
     /// A record of 64 bytes; no answer is a refusal.
-    fn value(&mut self, parameters: [u64; 3], answer: Option<&[u8]>) {
+    pub fn value(&mut self, parameters: [u64; 3], answer: Option<&[u8]>) {
         self.head(answer.is_some());
         self.records
             .extend(parameters.map(u64::to_le_bytes).as_flattened());
@@ -123,7 +128,7 @@ impl Recorder {
     }
 
     /// Records a conversion if the original can be asked and the buffers fit.
-    fn convert(&mut self, call: &ConvertCall) -> bool {
+    pub fn convert(&mut self, call: &ConvertCall) -> bool {
         let reply = call.conversion().reply();
         let asked = answers::can_convert(call, reply, || answers::effort(&call.region) <= MANY);
         if !asked || call.src.len() > AREA || call.dst.len() > AREA {
@@ -133,7 +138,7 @@ impl Recorder {
         let (accepted, dst) = answers::convert(call);
         let after = if accepted { area(&dst, 0xa5) } else { before };
         let parameters = convert_parameters(call);
-        let set = call.set.iter().flat_map(paper::numbers);
+        let set = call.set.iter().flat_map(rules::numbers);
         let set: Vec<u8> = set.flat_map(u32::to_le_bytes).collect();
         let areas: [&[u8]; 5] = [&area(&call.src, 0x3c), &before, &set, &after, &[]];
         self.buffers(accepted, &parameters, areas);
@@ -144,11 +149,12 @@ impl Recorder {
     /// refusal 10 is one that it reads only after the packed buffer, so a short one refuses too.
     fn asked(call: &DepthCall) -> bool {
         let lengths = [call.packed.len(), call.depth.len(), call.stencil.len()];
-        let reads_layout = call.transfer().reply() == 10 && !short_packed(call);
+        let by_rules = original::BY_RULES;
+        let reads_layout = !by_rules && call.transfer().reply() == 10 && !short_packed(call);
         !reads_layout && lengths.into_iter().all(|it| it <= AREA)
     }
 
-    fn unpack(&mut self, call: &DepthCall) {
+    pub fn unpack(&mut self, call: &DepthCall) {
         if !Self::asked(call) {
             return;
         }
@@ -162,7 +168,7 @@ impl Recorder {
         self.buffers(accepted, &depth_parameters(call), areas);
     }
 
-    fn pack(&mut self, call: &DepthCall) {
+    pub fn pack(&mut self, call: &DepthCall) {
         if !Self::asked(call) {
             return;
         }
@@ -194,7 +200,7 @@ fn depth_areas(call: &DepthCall) -> [[u8; AREA]; 3] {
 
 /// Whether the packed buffer ends before the last pixel, of a layout with rows.
 fn short_packed(call: &DepthCall) -> bool {
-    let Some(bytes) = paper::packed_bytes(call.format) else {
+    let Some(bytes) = rules::packed_bytes(call.format) else {
         return true;
     };
     let [width, height] = [call.planes.width, call.planes.height].map(|it| it as u128);
@@ -207,10 +213,11 @@ fn convert_parameters(call: &ConvertCall) -> Vec<u64> {
     let region = &call.region;
     let lengths = [call.src.len(), call.dst.len()];
     let formats = [call.dst_format, call.src_format];
-    let origins = [region.src_x, region.src_y, region.dst_x, region.dst_y];
+    let [source, destination] = [&region.source, &region.destination];
+    let origins = [source.x, source.y, destination.x, destination.y];
     let extent = [region.width, region.height];
-    let pitches = [region.src_pitch, region.dst_pitch];
-    let slices = [region.src_slice_pitch, region.dst_slice_pitch, region.depth];
+    let pitches = [source.pitch, destination.pitch];
+    let slices = [source.slice_pitch, destination.slice_pitch, region.depth];
     let narrow = formats.into_iter().chain(origins).chain(extent);
     let all = lengths.into_iter().chain(narrow.map(|it| it as usize));
     let all = all.chain(pitches).chain(slices);
@@ -235,41 +242,43 @@ fn depth_parameters(call: &DepthCall) -> [u64; 9] {
 
 /// Every two formats that convert from or to anything, and other codes.
 fn codes(to: &mut Recorder, converts: fn(u32, u32) -> bool) {
-    let record = |to: &mut Recorder, src: u32, dst: u32| {
-        let answer: Option<&[u8]> = converts(src, dst).then_some(&[]);
-        to.value([src.into(), dst.into(), 0], answer);
-    };
     for from in &FORMATS {
         for into in &FORMATS {
-            record(to, from.code, into.code);
+            pair(to, converts, from.code, into.code);
         }
     }
     for _ in 0..150 {
         let [src, dst] = [0; 2].map(|_| any_code(&mut to.random));
-        record(to, src, dst);
+        pair(to, converts, src, dst);
     }
 }
 
+pub fn pair(to: &mut Recorder, converts: fn(u32, u32) -> bool, src: u32, dst: u32) {
+    let answer: Option<&[u8]> = converts(src, dst).then_some(&[]);
+    to.value([src.into(), dst.into(), 0], answer);
+}
+
 fn triples(to: &mut Recorder) {
-    let record = |to: &mut Recorder, [luma, cb, cr]: [u8; 3]| {
-        let (r, g, b) = stretch_rect::yuv_to_rgb8(luma, cb, cr);
-        to.value([luma, cb, cr].map(u64::from), Some(&[r, g, b]));
-    };
     let edges = [0, 16, 127, 128, 235, 240, 255];
     for luma in edges {
         for cb in edges {
             for cr in edges {
-                record(to, [luma, cb, cr]);
+                triple(to, [luma, cb, cr]);
             }
         }
     }
     for _ in 0..600 {
         let [luma, cb, cr, _] = to.random.next_u32().to_le_bytes();
-        record(to, [luma, cb, cr]);
+        triple(to, [luma, cb, cr]);
     }
 }
 
-fn layout(to: &mut Recorder, parameters: [u64; 3], numbers: Option<[u64; 4]>) {
+pub fn triple(to: &mut Recorder, [luma, cb, cr]: [u8; 3]) {
+    let (r, g, b) = stretch_rect::yuv_to_rgb8(luma, cb, cr);
+    to.value([luma, cb, cr].map(u64::from), Some(&[r, g, b]));
+}
+
+pub fn layout(to: &mut Recorder, parameters: [u64; 3], numbers: Option<[u64; 4]>) {
     let bytes = numbers.map(|it| it.map(u64::to_le_bytes).concat());
     to.value(parameters, bytes.as_deref());
 }
@@ -343,16 +352,20 @@ fn fills(to: &mut Recorder) {
     for format in all.into_iter().filter(|it| *it <= 130 || *it > 300) {
         let others = [0; 3].map(|_| to.random.next_u32());
         for color in [0, u32::MAX, 0x80ff_4001].into_iter().chain(others) {
-            let pixel = convert::d3dcolor_fill_pixel_bytes(color, format);
-            let answer = pixel.map(|pixel| {
-                let mut answer = pixel.clone();
-                answer.resize(16, 0);
-                answer.extend((pixel.len() as u32).to_le_bytes());
-                answer
-            });
-            to.value([color.into(), format.into(), 0], answer.as_deref());
+            fill(to, color, format);
         }
     }
+}
+
+pub fn fill(to: &mut Recorder, color: u32, format: u32) {
+    let pixel = convert::d3dcolor_fill_pixel_bytes(color, format);
+    let answer = pixel.map(|pixel| {
+        let mut answer = pixel.clone();
+        answer.resize(16, 0);
+        answer.extend((pixel.len() as u32).to_le_bytes());
+        answer
+    });
+    to.value([color.into(), format.into(), 0], answer.as_deref());
 }
 
 fn halves(to: &mut Recorder) {
@@ -366,13 +379,17 @@ fn halves(to: &mut Recorder) {
     patterns.extend((0..200).map(|_| to.random.next_u32()));
     patterns.extend((0..200).map(|_| to.random.next_unit().to_bits()));
     for bits in patterns {
-        let half = if paper::is_faint(bits) {
-            answers::compiler_f32_to_f16_bits(bits)
-        } else {
-            convert::f32_to_f16_bits(f32::from_bits(bits))
-        };
-        to.value([bits.into(), 0, 0], Some(&half.to_le_bytes()));
+        half(to, bits);
     }
+}
+
+pub fn half(to: &mut Recorder, bits: u32) {
+    let half = if !original::BY_RULES && rules::is_faint(bits) {
+        answers::compiler_f32_to_f16_bits(bits)
+    } else {
+        convert::f32_to_f16_bits(f32::from_bits(bits))
+    };
+    to.value([bits.into(), 0, 0], Some(&half.to_le_bytes()));
 }
 
 fn colors(to: &mut Recorder) {
@@ -381,9 +398,13 @@ fn colors(to: &mut Recorder) {
         .chain((0..100).map(|_| to.random.next_u32()))
         .collect();
     for color in colors {
-        let bits = convert::d3dcolor_to_rgba_f32(color).map(|it| it.to_bits().to_le_bytes());
-        to.value([color.into(), 0, 0], Some(bits.as_flattened()));
+        rgba(to, color);
     }
+}
+
+pub fn rgba(to: &mut Recorder, color: u32) {
+    let bits = convert::d3dcolor_to_rgba_f32(color).map(|it| it.to_bits().to_le_bytes());
+    to.value([color.into(), 0, 0], Some(bits.as_flattened()));
 }
 
 /// For every pair that converts an exact region, one that is a byte short, and one of overlapping
@@ -428,7 +449,7 @@ fn conversions(to: &mut Recorder) {
 fn conversions_with_set(to: &mut Recorder) {
     let (yuv, others): (Vec<Pair>, Vec<Pair>) = pairs()
         .into_iter()
-        .partition(|(from, _)| paper::is_yuv(from.code));
+        .partition(|(from, _)| rules::is_yuv(from.code));
     for &(from, into) in &yuv {
         let call = fitting(to, from, into);
         for set in [BT601, BT709, legal_set(&mut to.random)] {
@@ -502,11 +523,11 @@ fn overlapping(to: &mut Recorder, from: &Format, into: &Format) -> ConvertCall {
     let mut region: Region = fitting(to, from, into).region;
     (region.width, region.height) = (region.width.max(2), region.height.max(2));
     let mut shrink = |size: &mut usize| *size = to.random.below(*size as u64 + 1) as usize;
-    shrink(&mut region.dst_pitch);
-    shrink(&mut region.dst_slice_pitch);
+    shrink(&mut region.destination.pitch);
+    shrink(&mut region.destination.slice_pitch);
     if from.kind != Kind::PlanarYuv {
-        shrink(&mut region.src_pitch);
-        shrink(&mut region.src_slice_pitch);
+        shrink(&mut region.source.pitch);
+        shrink(&mut region.source.slice_pitch);
     }
     ConvertCall::exact(&mut to.random, from, into, region)
 }
@@ -580,7 +601,7 @@ fn transfers(to: &mut Recorder, record: fn(&mut Recorder, &DepthCall)) {
 fn short(call: &DepthCall, buffer: usize) -> DepthCall {
     let mut call = call.clone();
     let planes = call.planes;
-    let row = planes.width * paper::packed_bytes(call.format).expect("a packed depth format");
+    let row = planes.width * rules::packed_bytes(call.format).expect("a packed depth format");
     match buffer {
         0 => call
             .packed
@@ -615,21 +636,29 @@ fn splats(to: &mut Recorder) {
     for pattern in 0..=16 {
         for _ in 0..8 {
             let length = to.random.below(AREA as u64 + 1) as usize;
-            splat(to, pattern, length);
+            random_splat(to, pattern, length);
         }
-        splat(to, pattern, AREA);
+        random_splat(to, pattern, AREA);
     }
     for length in 0..4 {
-        splat(to, AREA, length);
+        random_splat(to, AREA, length);
     }
 }
 
-fn splat(to: &mut Recorder, pattern: usize, length: usize) {
+fn random_splat(to: &mut Recorder, pattern: usize, length: usize) {
     let pixel = random_bytes(&mut to.random, pattern);
-    let mut dst = random_bytes(&mut to.random, length);
-    let before = area(&dst, 0xa5);
-    convert::splat_pixel_pattern(&mut dst, &pixel);
+    let dst = random_bytes(&mut to.random, length);
+    splat(to, &dst, &pixel);
+}
+
+pub fn splat(to: &mut Recorder, dst: &[u8], pixel: &[u8]) {
+    if dst.len() > AREA || pixel.len() > AREA {
+        return;
+    }
+    let before = area(dst, 0xa5);
+    let mut dst = dst.to_vec();
+    convert::splat_pixel_pattern(&mut dst, pixel);
     let after = area(&dst, 0xa5);
-    let areas: [&[u8]; 5] = [&area(&pixel, 0x3c), &before, &[], &after, &[]];
-    to.buffers(true, &[pattern as u64, length as u64], areas);
+    let areas: [&[u8]; 5] = [&area(pixel, 0x3c), &before, &[], &after, &[]];
+    to.buffers(true, &[pixel.len() as u64, dst.len() as u64], areas);
 }

@@ -1,6 +1,6 @@
-//! Conversions from YUV with a set of numbers (request 4 of document 02). The colour of a sample is
+//! Conversions from YUV with a set of numbers (docs/RULES.md, Sets of numbers). The colour of a sample is
 //! worked out from the definition in whole numbers, and neither the original nor the port stands
-//! behind it; paper.rs says which calls are accepted and where a texel's sample lies. A colour goes
+//! behind it; rules.rs says which calls are accepted and where a texel's sample lies. A colour goes
 //! into the destination by the original, which is given it as a texel of A8R8G8B8.
 #![allow(dead_code)]
 
@@ -8,8 +8,8 @@ use original::pixel_convert::{ConvertRegion, convert_region};
 
 use crate::{
     calls::ConvertCall,
-    common::{Region, YuvSet},
-    paper::{self, A8R8G8B8, Texel},
+    common::{Region, Side, YuvSet},
+    rules::{self, A8R8G8B8, Texel},
 };
 
 /// How many parts of a number of 16.16 make one.
@@ -29,7 +29,7 @@ fn products(set: &YuvSet, sample: [u8; 3]) -> [i128; 5] {
         v_to_green,
         u_to_blue,
         centre,
-    ] = paper::numbers(set).map(i128::from);
+    ] = rules::numbers(set).map(i128::from);
     let [luma, u, v] = sample.map(i128::from);
     let chroma = |code: i128, gain: i128| (2 * code - centre) * (ONE / 2) * gain;
     [
@@ -82,7 +82,7 @@ pub fn near(set: &YuvSet, macropixel: &[u8], texels: &[u8]) -> bool {
 pub fn convert(call: &ConvertCall) -> (bool, Vec<u8>) {
     let mut dst = call.dst.clone();
     let accepted = call.conversion().reply() == 0;
-    if accepted && !paper::is_empty(&call.region) {
+    if accepted && !rules::is_empty(&call.region) {
         write(call, &mut dst);
     }
     (accepted, dst)
@@ -92,10 +92,11 @@ pub fn convert(call: &ConvertCall) -> (bool, Vec<u8>) {
 fn write(call: &ConvertCall, dst: &mut [u8]) {
     let pitch = 4 * call.region.width as usize;
     let region = Region {
-        src_x: 0,
-        src_y: 0,
-        src_pitch: pitch,
-        src_slice_pitch: pitch * call.region.height as usize,
+        source: Side {
+            pitch,
+            slice_pitch: pitch * call.region.height as usize,
+            ..Side::default()
+        },
         ..call.region
     };
     let (picture, region) = (picture(call), ConvertRegion::from(&region));
@@ -107,14 +108,14 @@ fn write(call: &ConvertCall, dst: &mut [u8]) {
 
 /// The region's colours as a picture of A8R8G8B8, without padding.
 fn picture(call: &ConvertCall) -> Vec<u8> {
-    let from = paper::find(call.src_format).expect("a source");
+    let from = rules::find(call.src_format).expect("a source");
     let (region, set) = (&call.region, call.conversion().set);
     let mut picture = Vec::new();
     for slice in 0..region.depth as u128 {
         for row in 0..u128::from(region.height) {
             for column in 0..u128::from(region.width) {
                 let texel = Texel { slice, row, column };
-                let places = paper::sample(region, from, texel).expect("a texel of YUV");
+                let places = rules::sample(region, from, texel).expect("a texel of YUV");
                 let sample = places.map(|at| call.src[at as usize]);
                 let [red, green, blue] = colour(&set, sample);
                 picture.extend([blue, green, red, 255]);

@@ -1,13 +1,14 @@
-//! The sources that document 02 adds (request 1), each channel an exact fraction: the byte nearest
-//! to it is found by trying every byte, in whole numbers. Neither the original nor the port stands
-//! behind it; paper.rs says which calls are accepted, and how many bytes a texel has.
+//! The sources that the original refuses and the port converts, each channel an exact fraction
+//! (docs/RULES.md, Channels): the byte nearest to it is found by trying every byte, in whole
+//! numbers. Neither the original nor the port stands behind it; rules.rs says which calls are
+//! accepted, and how many bytes a texel has.
 #![allow(dead_code)]
 
 use std::{collections::HashMap, sync::LazyLock};
 
 use crate::{
     calls::ConvertCall,
-    paper::{self, Format},
+    rules::{self, Format},
 };
 use Lane::{Lacking, Signed, Unsigned};
 
@@ -120,7 +121,7 @@ static NEAREST: LazyLock<HashMap<u32, Vec<u8>>> = LazyLock::new(|| {
 /// The channels of a texel, in the order of the bytes of A8R8G8B8.
 fn channels(format: &Format, texel: &[u8]) -> [Value; 4] {
     let found = LANES.iter().find(|(name, _)| *name == format.name);
-    let (_, lanes) = found.expect("a source that document 02 adds");
+    let (_, lanes) = found.expect("a source of this file");
     let mut word = [0; 4];
     word[..texel.len()].copy_from_slice(texel);
     lanes.map(|lane| lane.value(u32::from_le_bytes(word)))
@@ -137,30 +138,33 @@ pub fn near(format: &Format, texel: &[u8], bytes: &[u8]) -> bool {
 pub fn convert(call: &ConvertCall) -> (bool, Vec<u8>) {
     let mut dst = call.dst.clone();
     let accepted = call.conversion().reply() == 0;
-    if accepted {
+    if accepted && !rules::is_empty(&call.region) {
         write(call, &mut dst);
     }
     (accepted, dst)
 }
 
-/// Writes an accepted region by slice, row and column.
+/// Writes an accepted region that has texels, by slice, row and column.
 fn write(call: &ConvertCall, dst: &mut [u8]) {
-    let from = paper::find(call.src_format).expect("a source");
+    let from = rules::find(call.src_format).expect("a source");
     let region = &call.region;
     for slice in 0..region.depth as u128 {
         for row in 0..u128::from(region.height) {
             for column in 0..u128::from(region.width) {
                 let start = offset([
-                    (slice, region.src_slice_pitch),
-                    (row + u128::from(region.src_y), region.src_pitch),
-                    (column + u128::from(region.src_x), from.bytes),
+                    (slice, region.source.slice_pitch),
+                    (row + u128::from(region.source.y), region.source.pitch),
+                    (column + u128::from(region.source.x), from.bytes),
                 ]);
                 let channels = channels(from, &call.src[start..start + from.bytes]);
                 let bytes = channels.map(|it| NEAREST[&it.whole][it.part as usize]);
                 let start = offset([
-                    (slice, region.dst_slice_pitch),
-                    (row + u128::from(region.dst_y), region.dst_pitch),
-                    (column + u128::from(region.dst_x), bytes.len()),
+                    (slice, region.destination.slice_pitch),
+                    (
+                        row + u128::from(region.destination.y),
+                        region.destination.pitch,
+                    ),
+                    (column + u128::from(region.destination.x), bytes.len()),
                 ]);
                 dst[start..start + bytes.len()].copy_from_slice(&bytes);
             }

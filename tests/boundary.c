@@ -30,10 +30,22 @@ static bool all(const uint8_t *bytes, size_t length, uint8_t value)
     return true;
 }
 
-static bool numbers(const uint64_t found[4], uint64_t a, uint64_t b, uint64_t c, uint64_t d)
+static bool planes(const WentuqisPlaneLayout *found, uint64_t width, uint64_t height, uint64_t depth_pitch,
+                   uint64_t stencil_pitch)
 {
-    return found[0] == a && found[1] == b && found[2] == c && found[3] == d;
+    return found->width == width && found->height == height && found->depth_pitch == depth_pitch
+           && found->stencil_pitch == stencil_pitch;
 }
+
+static bool planar(const WentuqisPlanarYuvLayout *found, uint64_t pitch, uint64_t luma_rows, uint64_t chroma_rows,
+                   uint64_t total_bytes)
+{
+    return found->pitch == pitch && found->luma_rows == luma_rows && found->chroma_rows == chroma_rows
+           && found->total_bytes == total_bytes;
+}
+
+/* Two texels of a row of four bytes into a row of eight; the source slice pitch suits no planar frame. */
+static const WentuqisRegion row = {{4, 3, 0, 0}, {8, 0, 0, 0}, 1, 2, 1};
 
 static void test_pairs(void)
 {
@@ -49,8 +61,7 @@ static void test_pairs(void)
 /* Converts two texels of a row into A8R8G8B8. */
 static uint32_t convert(uint8_t *dst, size_t dst_len, const uint8_t *src, size_t src_len, uint32_t src_format)
 {
-    return wentuqis_convert_region(dst, dst_len, WENTUQIS_FMT_A8R8G8B8, src, src_len, src_format,
-                                   0, 0, 0, 0, 2, 1, 4, 8, 3, 0, 1);
+    return wentuqis_convert_region(dst, dst_len, WENTUQIS_FMT_A8R8G8B8, src, src_len, src_format, &row);
 }
 
 /* A frame of two texels, its last byte missing, a screen one byte short, and then both whole. */
@@ -72,6 +83,7 @@ static void test_convert(void)
     static const uint8_t screen[8] = {1, 0, 1, 255, 255, 254, 255, 255};
     static const uint8_t map[4] = {0x7f, 0x01, 0x80, 0x40};
     static const uint8_t map_screen[8] = {255, 2, 255, 255, 255, 129, 0, 255};
+    static const WentuqisRegion empty = {{0, 0, 0, 0}, {0, 0, 0, 0}, 0, 0, 0};
     uint8_t dst[8];
 
     memset(dst, 9, sizeof dst);
@@ -80,41 +92,75 @@ static void test_convert(void)
     check(all(dst, sizeof dst, 9), "convert_region: refused before a texel, dst is kept");
     test_frame(frame, WENTUQIS_FMT_YUY2, screen);
     test_frame(map, WENTUQIS_FMT_V8U8, map_screen);
-    check(wentuqis_convert_region(dst, 0, WENTUQIS_FMT_A8R8G8B8, frame, 0, WENTUQIS_FMT_YUY2,
-                                  0, 0, 0, 0, 0, 0, 0, 0, 0, 0, 0) == WENTUQIS_ACCEPTED,
+    check(wentuqis_convert_region(dst, 0, WENTUQIS_FMT_A8R8G8B8, frame, 0, WENTUQIS_FMT_YUY2, &empty)
+              == WENTUQIS_ACCEPTED,
           "convert_region: empty region, lengths 0");
+}
+
+/* Every field of a region has a value of its own: a texel of the second slice from column 2 of row 3 of a source to
+ * column 1 of row 2 of a destination. */
+static void test_fields_of_a_region(void)
+{
+    WentuqisRegion region = {{5, 40, 2, 3}, {6, 50, 1, 2}, 2, 3, 1};
+    uint8_t src[60], dst[66];
+
+    for (size_t i = 0; i < sizeof src; i++) {
+        src[i] = (uint8_t)(i + 1);
+    }
+    memset(dst, 0, sizeof dst);
+    check(wentuqis_convert_region(dst, sizeof dst, WENTUQIS_FMT_L8, src, 59, WENTUQIS_FMT_L8, &region)
+              == WENTUQIS_SOURCE_OUTSIDE,
+          "region: source one byte short");
+    check(wentuqis_convert_region(dst, 65, WENTUQIS_FMT_L8, src, sizeof src, WENTUQIS_FMT_L8, &region)
+              == WENTUQIS_DESTINATION_OUTSIDE,
+          "region: destination one byte short");
+    check(all(dst, sizeof dst, 0), "region: refused, dst is kept");
+    check(wentuqis_convert_region(dst, sizeof dst, WENTUQIS_FMT_L8, src, sizeof src, WENTUQIS_FMT_L8, &region)
+              == WENTUQIS_ACCEPTED,
+          "region: accepted");
+    /* slice z, column x of the region: from 40 z + 5 * 3 + 2 + x to 50 z + 6 * 2 + 1 + x */
+    for (size_t i = 0; i < sizeof dst; i++) {
+        bool first = i >= 13 && i < 16, second = i >= 63;
+        check(dst[i] == (first ? i + 5 : second ? i - 5 : 0), "region: bytes");
+    }
 }
 
 /* The same conversion with YUV by a set. */
 static uint32_t convert_with_set(uint8_t *dst, size_t dst_len, const uint8_t *src, size_t src_len, uint32_t src_format,
-                                 uint32_t luma_gain, uint32_t luma_offset, uint32_t v_to_red, uint32_t u_to_green,
-                                 uint32_t v_to_green, uint32_t u_to_blue, uint32_t chroma_centre)
+                                 WentuqisYuvSet set)
 {
-    return wentuqis_convert_region_with_set(dst, dst_len, WENTUQIS_FMT_A8R8G8B8, src, src_len, src_format,
-                                            0, 0, 0, 0, 2, 1, 4, 8, 3, 0, 1, luma_gain, luma_offset, v_to_red,
-                                            u_to_green, v_to_green, u_to_blue, chroma_centre);
+    return wentuqis_convert_region_with_set(dst, dst_len, WENTUQIS_FMT_A8R8G8B8, src, src_len, src_format, &row, &set);
 }
 
 /* Whether a set has these thousandths as the nearest 65536ths, and this centre. */
-static bool nearest(const uint32_t set[7], const uint64_t thousandths[6], uint32_t centre)
+static bool nearest(const WentuqisYuvSet *set, const uint64_t thousandths[6], uint32_t centre)
 {
+    const uint32_t numbers[6] = {set->luma_gain,  set->luma_offset, set->v_to_red,
+                                 set->u_to_green, set->v_to_green,  set->u_to_blue};
+
     for (size_t i = 0; i < 6; i++) {
-        if (set[i] != (thousandths[i] * 65536 + 500) / 1000) {
+        if (numbers[i] != (thousandths[i] * 65536 + 500) / 1000) {
             return false;
         }
     }
-    return set[6] == centre;
+    return set->chroma_centre == centre;
 }
 
 static void test_named_sets(void)
 {
-    static const uint32_t bt601[7] = {WENTUQIS_BT601};
-    static const uint32_t bt709[7] = {WENTUQIS_BT709};
+    static const WentuqisYuvSet bt601 = WENTUQIS_BT601;
+    static const WentuqisYuvSet bt709 = WENTUQIS_BT709;
     static const uint64_t decimals601[6] = {1164, 16065, 1596, 392, 813, 2017};
     static const uint64_t decimals709[6] = {1164, 16000, 1793, 213, 533, 2112};
 
-    check(nearest(bt601, decimals601, 255), "BT601: the nearest numbers");
-    check(nearest(bt709, decimals709, 256), "BT709: the nearest numbers");
+    WentuqisYuvSet handed_back = {9, 9, 9, 9, 9, 9, 9};
+
+    check(nearest(&bt601, decimals601, 255), "BT601: the nearest numbers");
+    check(nearest(&bt709, decimals709, 256), "BT709: the nearest numbers");
+    wentuqis_bt601(&handed_back);
+    check(nearest(&handed_back, decimals601, 255), "bt601: the nearest numbers");
+    wentuqis_bt709(&handed_back);
+    check(nearest(&handed_back, decimals709, 256), "bt709: the nearest numbers");
 }
 
 static void test_convert_with_set(void)
@@ -125,37 +171,43 @@ static void test_convert_with_set(void)
     static const uint8_t screen[8] = {62, 115, 161, 255, 196, 249, 255, 255};
     static const uint8_t rgb[4] = {0x00, 0xf8, 0x1f, 0x00};
     static const uint8_t rgb_screen[8] = {0, 0, 255, 255, 255, 0, 0, 255};
+    static const WentuqisYuvSet bt601 = WENTUQIS_BT601;
+    static const WentuqisYuvSet bt709 = WENTUQIS_BT709;
+    static const WentuqisYuvSet steep = {262144, 0, 0, 0, 0, 0, 256};
+    static const WentuqisYuvSet bright = {0, 4194304, 0, 0, 0, 0, 256};
+    static const WentuqisYuvSet off_centre = {0, 0, 0, 0, 0, 0, 257};
+    static const WentuqisYuvSet all_illegal = {262144, 4194304, 262144, 262144, 262144, 262144, 257};
     uint8_t dst[8], plain[8];
 
     memset(dst, 9, sizeof dst);
-    check(convert_with_set(dst, 8, frame, 4, WENTUQIS_FMT_YUY2, 262144, 0, 0, 0, 0, 0, 256) == WENTUQIS_ILLEGAL_SET,
+    check(convert_with_set(dst, 8, frame, 4, WENTUQIS_FMT_YUY2, steep) == WENTUQIS_ILLEGAL_SET,
           "convert_region_with_set: gain");
-    check(convert_with_set(dst, 8, frame, 4, WENTUQIS_FMT_YUY2, 0, 4194304, 0, 0, 0, 0, 256) == WENTUQIS_ILLEGAL_SET,
+    check(convert_with_set(dst, 8, frame, 4, WENTUQIS_FMT_YUY2, bright) == WENTUQIS_ILLEGAL_SET,
           "convert_region_with_set: offset");
-    check(convert_with_set(dst, 8, frame, 4, WENTUQIS_FMT_YUY2, 0, 0, 0, 0, 0, 0, 257) == WENTUQIS_ILLEGAL_SET,
+    check(convert_with_set(dst, 8, frame, 4, WENTUQIS_FMT_YUY2, off_centre) == WENTUQIS_ILLEGAL_SET,
           "convert_region_with_set: centre");
-    check(convert_with_set(dst, 8, frame, 4, WENTUQIS_FMT_NV12, 0, 0, 0, 0, 0, 0, 257) == WENTUQIS_PLANAR_SHAPE,
+    check(convert_with_set(dst, 8, frame, 4, WENTUQIS_FMT_NV12, off_centre) == WENTUQIS_PLANAR_SHAPE,
           "convert_region_with_set: planar shape before the set");
-    check(convert_with_set(dst, 8, frame, 3, WENTUQIS_FMT_YUY2, 0, 0, 0, 0, 0, 0, 257) == WENTUQIS_ILLEGAL_SET,
+    check(convert_with_set(dst, 8, frame, 3, WENTUQIS_FMT_YUY2, off_centre) == WENTUQIS_ILLEGAL_SET,
           "convert_region_with_set: the set before the source");
-    check(convert_with_set(dst, 8, frame, 3, WENTUQIS_FMT_YUY2, WENTUQIS_BT709) == WENTUQIS_SOURCE_OUTSIDE,
+    check(convert_with_set(dst, 8, frame, 3, WENTUQIS_FMT_YUY2, bt709) == WENTUQIS_SOURCE_OUTSIDE,
           "convert_region_with_set: source");
-    check(convert_with_set(dst, 7, frame, 4, WENTUQIS_FMT_YUY2, WENTUQIS_BT709) == WENTUQIS_DESTINATION_OUTSIDE,
+    check(convert_with_set(dst, 7, frame, 4, WENTUQIS_FMT_YUY2, bt709) == WENTUQIS_DESTINATION_OUTSIDE,
           "convert_region_with_set: destination");
     check(all(dst, sizeof dst, 9), "convert_region_with_set: refused, dst is kept");
 
-    check(convert_with_set(dst, 8, frame, 4, WENTUQIS_FMT_YUY2, WENTUQIS_BT709) == WENTUQIS_ACCEPTED,
+    check(convert_with_set(dst, 8, frame, 4, WENTUQIS_FMT_YUY2, bt709) == WENTUQIS_ACCEPTED,
           "convert_region_with_set: BT709");
     check(memcmp(dst, screen, sizeof dst) == 0, "convert_region_with_set: bytes by BT709");
 
     memset(plain, 9, sizeof plain);
     check(convert(plain, 8, frame, 4, WENTUQIS_FMT_YUY2) == WENTUQIS_ACCEPTED, "convert_region: accepted");
     check(memcmp(dst, plain, sizeof dst) != 0, "convert_region_with_set: BT709 is not convert_region");
-    check(convert_with_set(dst, 8, frame, 4, WENTUQIS_FMT_YUY2, WENTUQIS_BT601) == WENTUQIS_ACCEPTED,
+    check(convert_with_set(dst, 8, frame, 4, WENTUQIS_FMT_YUY2, bt601) == WENTUQIS_ACCEPTED,
           "convert_region_with_set: BT601");
     check(memcmp(dst, plain, sizeof dst) == 0, "convert_region_with_set: BT601 is convert_region");
 
-    check(convert_with_set(dst, 8, rgb, 4, WENTUQIS_FMT_R5G6B5, 262144, 4194304, 262144, 262144, 262144, 262144, 257)
+    check(convert_with_set(dst, 8, rgb, 4, WENTUQIS_FMT_R5G6B5, all_illegal)
               == WENTUQIS_ACCEPTED,
           "convert_region_with_set: any set where the source is RGB");
     check(memcmp(dst, rgb_screen, sizeof dst) == 0, "convert_region_with_set: bytes where the source is RGB");
@@ -163,18 +215,18 @@ static void test_convert_with_set(void)
 
 static void test_fill(void)
 {
-    uint8_t bytes[16];
-    uint32_t length = 7;
+    WentuqisFillPixel fill;
 
-    memset(bytes, 9, sizeof bytes);
-    check(wentuqis_d3dcolor_fill_pixel_bytes(0xdeadbeef, WENTUQIS_FMT_R5G6B5, bytes, &length) == WENTUQIS_ACCEPTED,
+    memset(&fill, 9, sizeof fill);
+    check(wentuqis_d3dcolor_fill_pixel_bytes(0xdeadbeef, WENTUQIS_FMT_R5G6B5, &fill) == WENTUQIS_ACCEPTED,
           "fill: accepted");
-    check(length == 2 && bytes[0] == 0xfd && bytes[1] == 0xad && all(bytes + 2, 14, 0), "fill: bytes");
+    check(fill.length == 2 && fill.bytes[0] == 0xfd && fill.bytes[1] == 0xad && all(fill.bytes + 2, 14, 0),
+          "fill: bytes");
 
-    memset(bytes, 9, sizeof bytes);
-    check(wentuqis_d3dcolor_fill_pixel_bytes(0xdeadbeef, WENTUQIS_FMT_D16, bytes, &length) == WENTUQIS_NO_FILL,
+    memset(&fill, 9, sizeof fill);
+    check(wentuqis_d3dcolor_fill_pixel_bytes(0xdeadbeef, WENTUQIS_FMT_D16, &fill) == WENTUQIS_NO_FILL,
           "fill: refused");
-    check(length == 0 && all(bytes, 16, 0), "fill: refused, zeros");
+    check(fill.length == 0 && all(fill.bytes, 16, 0), "fill: refused, zeros");
 }
 
 static void test_splat(void)
@@ -210,27 +262,30 @@ static void test_numbers(void)
 
 static void test_plane_layout(void)
 {
-    uint64_t layout[4] = {9, 9, 9, 9};
+    WentuqisPlaneLayout layout = {9, 9, 9, 9};
 
-    check(wentuqis_plane_layout(5, 3, 16, layout) == WENTUQIS_ACCEPTED, "plane_layout: accepted");
-    check(numbers(layout, 5, 3, 32, 16), "plane_layout: numbers");
-    check(wentuqis_plane_layout(0, 3, 16, layout) == WENTUQIS_ZERO_SIZE, "plane_layout: zero size");
-    check(numbers(layout, 0, 0, 0, 0), "plane_layout: refused, zeros");
-    check(wentuqis_plane_layout(5, 3, 6, layout) == WENTUQIS_NO_POWER_OF_TWO, "plane_layout: alignment");
-    check(wentuqis_plane_layout(UINT32_MAX, UINT32_MAX, 4, layout) == WENTUQIS_OVER_64_BITS, "plane_layout: 64 bits");
+    check(wentuqis_plane_layout(5, 3, 16, &layout) == WENTUQIS_ACCEPTED, "plane_layout: accepted");
+    check(planes(&layout, 5, 3, 32, 16), "plane_layout: numbers");
+    check(wentuqis_plane_layout(0, 3, 16, &layout) == WENTUQIS_ZERO_SIZE, "plane_layout: zero size");
+    check(planes(&layout, 0, 0, 0, 0), "plane_layout: refused, zeros");
+    check(wentuqis_plane_layout(5, 3, 6, &layout) == WENTUQIS_NO_POWER_OF_TWO, "plane_layout: alignment");
+    check(wentuqis_plane_layout(UINT32_MAX, UINT32_MAX, 4, &layout) == WENTUQIS_OVER_64_BITS, "plane_layout: 64 bits");
 }
 
 /* Unpacks two pixels of one row. */
-static uint32_t unpack(uint32_t format, size_t depth_pitch, const uint8_t *packed, size_t packed_len,
+static uint32_t unpack(uint32_t format, uint64_t depth_pitch, const uint8_t *packed, size_t packed_len,
                        uint8_t *depth, size_t depth_len, uint8_t *stencil)
 {
-    return wentuqis_unpack(format, 2, 1, depth_pitch, 4, packed, packed_len, 8, depth, depth_len, stencil, 4);
+    const WentuqisPlaneLayout layout = {2, 1, depth_pitch, 4};
+
+    return wentuqis_unpack(depth, depth_len, stencil, 4, packed, packed_len, 8, format, &layout);
 }
 
 static void test_depth(void)
 {
     static const uint8_t picture[8] = {7, 0xff, 0xff, 0xff, 8, 0x00, 0x00, 0x80};
     static const uint8_t one[4] = {0x00, 0x00, 0x80, 0x3f};
+    static const WentuqisPlaneLayout layout = {2, 1, 8, 4};
     uint8_t depth[8], stencil[4], packed[9];
 
     memset(depth, 9, sizeof depth);
@@ -246,37 +301,59 @@ static void test_depth(void)
     check(memcmp(depth, one, sizeof one) == 0, "unpack: depth plane");
     check(stencil[0] == 7 && stencil[1] == 8 && stencil[2] == 9, "unpack: stencil plane");
 
-    check(wentuqis_pack(WENTUQIS_FMT_D24S8, 2, 1, 8, 4, depth, 8, stencil, 3, packed, 9, 9) == WENTUQIS_SHORT_STENCIL,
+    check(wentuqis_pack(packed, 9, 9, depth, 8, stencil, 3, WENTUQIS_FMT_D24S8, &layout) == WENTUQIS_SHORT_STENCIL,
           "pack: stencil");
     check(all(packed, 9, 9), "pack: refused, packed is kept");
-    check(wentuqis_pack(WENTUQIS_FMT_D24S8, 2, 1, 8, 4, depth, 8, stencil, 4, packed, 9, 9) == WENTUQIS_ACCEPTED,
+    check(wentuqis_pack(packed, 9, 9, depth, 8, stencil, 4, WENTUQIS_FMT_D24S8, &layout) == WENTUQIS_ACCEPTED,
           "pack: accepted");
     check(memcmp(packed, picture, 8) == 0 && packed[8] == 9, "pack: restored at another pitch");
 }
 
 static void test_planar_layouts(void)
 {
-    uint64_t layout[4] = {9, 9, 9, 9};
+    WentuqisPlanarYuvLayout layout = {9, 9, 9, 9};
 
-    check(wentuqis_planar_yuv_layout(WENTUQIS_FMT_NV12, 6, 3, layout) == WENTUQIS_ACCEPTED,
+    check(wentuqis_planar_yuv_layout(WENTUQIS_FMT_NV12, 6, 3, &layout) == WENTUQIS_ACCEPTED,
           "planar_yuv_layout: accepted");
-    check(numbers(layout, 8, 3, 2, 40), "planar_yuv_layout: numbers");
-    check(wentuqis_planar_yuv_layout(WENTUQIS_FMT_YV12, 6, 3, layout) == WENTUQIS_NO_PLANAR_LAYOUT,
+    check(planar(&layout, 8, 3, 2, 40), "planar_yuv_layout: numbers");
+    check(wentuqis_planar_yuv_layout(WENTUQIS_FMT_YV12, 6, 3, &layout) == WENTUQIS_NO_PLANAR_LAYOUT,
           "planar_yuv_layout: refused");
-    check(numbers(layout, 0, 0, 0, 0), "planar_yuv_layout: refused, zeros");
+    check(planar(&layout, 0, 0, 0, 0), "planar_yuv_layout: refused, zeros");
 
-    check(wentuqis_planar_yuv_layout_from_pitch(WENTUQIS_FMT_NV12, 10, 3, layout) == WENTUQIS_ACCEPTED,
+    check(wentuqis_planar_yuv_layout_from_pitch(WENTUQIS_FMT_NV12, 10, 3, &layout) == WENTUQIS_ACCEPTED,
           "planar_yuv_layout_from_pitch: accepted");
-    check(numbers(layout, 10, 3, 2, 50), "planar_yuv_layout_from_pitch: numbers");
-    check(wentuqis_planar_yuv_layout_from_pitch(WENTUQIS_FMT_NV12, 9, 3, layout) == WENTUQIS_NO_PLANAR_LAYOUT,
+    check(planar(&layout, 10, 3, 2, 50), "planar_yuv_layout_from_pitch: numbers");
+    check(wentuqis_planar_yuv_layout_from_pitch(WENTUQIS_FMT_NV12, 9, 3, &layout) == WENTUQIS_NO_PLANAR_LAYOUT,
           "planar_yuv_layout_from_pitch: refused");
-    check(numbers(layout, 0, 0, 0, 0), "planar_yuv_layout_from_pitch: refused, zeros");
+    check(planar(&layout, 0, 0, 0, 0), "planar_yuv_layout_from_pitch: refused, zeros");
+}
+
+/* Every reply has a text of its own, and so has a number that is none. */
+static void test_refusal_texts(void)
+{
+    for (uint32_t reply = 0; reply <= WENTUQIS_ILLEGAL_SET + 1; reply++) {
+        for (uint32_t other = 0; other < reply; other++) {
+            check(strcmp(wentuqis_refusal_text(reply), wentuqis_refusal_text(other)) != 0, "refusal_text");
+        }
+    }
+    check(strcmp(wentuqis_refusal_text(WENTUQIS_ACCEPTED), "accepted") == 0, "refusal_text: accepted");
+    check(strncmp(wentuqis_refusal_text(WENTUQIS_SOURCE_OUTSIDE), "source outside", 14) == 0, "refusal_text: source");
+    check(strcmp(wentuqis_refusal_text(16), wentuqis_refusal_text(UINT32_MAX)) == 0, "refusal_text: no reply");
+}
+
+static void test_version(void)
+{
+    char text[32];
+
+    snprintf(text, sizeof text, "%d.%d.%d", WENTUQIS_VERSION_MAJOR, WENTUQIS_VERSION_MINOR, WENTUQIS_VERSION_PATCH);
+    check(strcmp(text, WENTUQIS_VERSION) == 0, "version");
 }
 
 int main(void)
 {
     test_pairs();
     test_convert();
+    test_fields_of_a_region();
     test_named_sets();
     test_convert_with_set();
     test_fill();
@@ -285,6 +362,8 @@ int main(void)
     test_plane_layout();
     test_depth();
     test_planar_layouts();
+    test_refusal_texts();
+    test_version();
     printf("boundary: %d passed, %d failed\n", passed, failed);
     return failed != 0;
 }

@@ -7,8 +7,8 @@ use crate::{
         pairs, texel_bytes, tie, yuv_pairs,
     },
     checks::{Checks, spread},
-    common::{Region, XorShift, random_bytes, whole_frame},
-    paper::{self, FORMATS, Format, Kind, NV12, YV12, named},
+    common::{Region, Side, XorShift, random_bytes, whole_frame},
+    rules::{self, FORMATS, Format, Kind, NV12, YV12, named},
 };
 
 pub fn run(checks: &mut Checks, random: &mut XorShift, all: bool) {
@@ -155,11 +155,11 @@ fn overlaps(random: &mut XorShift, pairs: &[Pair], check: &mut dyn FnMut(Convert
                     *size = random.below(*size as u64 + 1) as usize;
                 }
             };
-            shrink(&mut region.dst_pitch);
-            shrink(&mut region.dst_slice_pitch);
+            shrink(&mut region.destination.pitch);
+            shrink(&mut region.destination.slice_pitch);
             if from.kind != Kind::PlanarYuv {
-                shrink(&mut region.src_pitch);
-                shrink(&mut region.src_slice_pitch);
+                shrink(&mut region.source.pitch);
+                shrink(&mut region.source.slice_pitch);
             }
             check(ConvertCall::exact(random, from, to, region));
         }
@@ -184,14 +184,17 @@ pub fn yuv_rows(random: &mut XorShift, mut check: impl FnMut(ConvertCall)) {
                 let mut apart = ConvertCall::accepted_at(random, from, to, origins, extent);
                 let region = apart.region;
                 let close = random.below(u64::from(width) * to.bytes as u64) as usize;
-                for (dst_pitch, dst_slice_pitch) in [
-                    (0, region.dst_slice_pitch),
+                for (pitch, slice_pitch) in [
+                    (0, region.destination.slice_pitch),
                     (close, random.below(3 * close as u64 + 1) as usize),
-                    (region.dst_pitch, 0),
+                    (region.destination.pitch, 0),
                 ] {
                     let region = Region {
-                        dst_pitch,
-                        dst_slice_pitch,
+                        destination: Side {
+                            pitch,
+                            slice_pitch,
+                            ..region.destination
+                        },
                         ..region
                     };
                     check(ConvertCall::exact(random, from, to, region));
@@ -229,11 +232,11 @@ fn limits(checks: &mut Checks, random: &mut XorShift) {
     for column in [u32::MAX - 2, u32::MAX - 1, u32::MAX] {
         for (from, to) in pairs() {
             let mut call = ConvertCall::accepted(random, from, to, [2, 2, 1]);
-            call.region.src_x = column;
+            call.region.source.x = column;
             checks.convert_region(&call);
-            call.region.dst_x = column;
+            call.region.destination.x = column;
             checks.convert_region(&call);
-            call.region.src_x = 0;
+            call.region.source.x = 0;
             checks.convert_region(&call);
         }
     }
@@ -249,12 +252,12 @@ fn limit(checks: &mut Checks, call: &ConvertCall, numbers: [usize; 3], row: u32)
             let region = &mut call.region;
             (region.height, region.depth) = (height, depth);
             if sides & 1 != 0 {
-                (region.src_pitch, region.src_slice_pitch) = (pitch, slice_pitch);
-                region.src_y = row;
+                (region.source.pitch, region.source.slice_pitch) = (pitch, slice_pitch);
+                region.source.y = row;
             }
             if sides & 2 != 0 {
-                (region.dst_pitch, region.dst_slice_pitch) = (pitch, slice_pitch);
-                region.dst_y = row;
+                (region.destination.pitch, region.destination.slice_pitch) = (pitch, slice_pitch);
+                region.destination.y = row;
             }
             checks.convert_region(&call);
         }
@@ -277,8 +280,8 @@ fn endless(checks: &mut Checks, random: &mut XorShift) {
             let mut call = ConvertCall::accepted(random, named("A8"), named("A8"), [1, 1, 1]);
             let region = &mut call.region;
             (region.width, region.height, region.depth) = extent;
-            [region.src_pitch, region.dst_pitch] = pitches;
-            [region.src_slice_pitch, region.dst_slice_pitch] = pitches;
+            [region.source.pitch, region.destination.pitch] = pitches;
+            [region.source.slice_pitch, region.destination.slice_pitch] = pitches;
             checks.convert_region(&call);
         }
     }
@@ -311,10 +314,10 @@ fn planar_limit(
     [pitch, rows]: [usize; 2],
     [x, y]: [usize; 2],
 ) {
-    let from = paper::find(format).expect("a planar format");
+    let from = rules::find(format).expect("a planar format");
     let mut region = whole_frame(1, 1, pitch, 4);
-    region.src_slice_pitch = pitch * rows;
-    (region.src_x, region.src_y) = (x as u32, y as u32);
+    region.source.slice_pitch = pitch * rows;
+    (region.source.x, region.source.y) = (x as u32, y as u32);
     let mut call = ConvertCall {
         dst_format: named("X8R8G8B8").code,
         dst: random_bytes(random, 4),
@@ -356,18 +359,18 @@ pub fn damaged(
 /// A conversion in which every number of the region is any.
 fn any_numbers(random: &mut XorShift, pairs: &[Pair]) -> ConvertCall {
     let mut call = ConvertCall::any(random, pairs);
+    let mut side = || Side {
+        pitch: any64(random) as usize,
+        slice_pitch: any64(random) as usize,
+        x: any32(random),
+        y: any32(random),
+    };
     call.region = Region {
-        src_x: any32(random),
-        src_y: any32(random),
-        dst_x: any32(random),
-        dst_y: any32(random),
+        source: side(),
+        destination: side(),
+        depth: any64(random) as usize,
         width: any32(random),
         height: any32(random),
-        src_pitch: any64(random) as usize,
-        dst_pitch: any64(random) as usize,
-        src_slice_pitch: any64(random) as usize,
-        dst_slice_pitch: any64(random) as usize,
-        depth: any64(random) as usize,
     };
     call
 }
@@ -432,7 +435,7 @@ fn wide_texels(checks: &mut Checks, random: &mut XorShift) {
     }
 }
 
-/// Every code in each lane of the sources that document 02 adds: all texels of those of 16 bits.
+/// Every code in each lane of the sources that the original refuses: all texels of those of 16 bits.
 fn still_texels(checks: &mut Checks, random: &mut XorShift) {
     const WIDTHS: [(&str, &[u32]); 6] = [
         ("A2R10G10B10", &[10, 10, 10, 2]),
@@ -509,8 +512,8 @@ fn every_binary32(checks: &mut Checks) {
 fn largest_planar(checks: &mut Checks, random: &mut XorShift) {
     for format in ["NV12", "YV12"] {
         let mut region = whole_frame(1, 1, 16384, 4);
-        region.src_slice_pitch = 16384 * 10922;
-        (region.src_x, region.src_y) = (16383, 10921);
+        region.source.slice_pitch = 16384 * 10922;
+        (region.source.x, region.source.y) = (16383, 10921);
         let (from, to) = (named(format), named("A8R8G8B8"));
         let mut call = ConvertCall::exact(random, from, to, region);
         checks.convert_region(&call);

@@ -6,7 +6,7 @@ use crate::{
     },
     checks::{Checks, spread},
     common::{Planes, XorShift, random_bytes},
-    paper::{self, D16, D24S8, D24X8},
+    rules::{self, D16, D24S8, D24X8},
 };
 
 pub fn run(checks: &mut Checks, random: &mut XorShift, all: bool) {
@@ -69,7 +69,7 @@ fn transfer(checks: &mut Checks, random: &mut XorShift, call: &DepthCall) {
     checks.unpack(call);
     checks.pack(call);
     if call.format != D24X8 {
-        let row = call.planes.width * paper::packed_bytes(call.format).expect("a depth format");
+        let row = call.planes.width * rules::packed_bytes(call.format).expect("a depth format");
         let pitch = row + random.pick(&[0, 1, 3, 8]);
         let length = (call.planes.height - 1) * pitch + row;
         checks.restores(call, random_bytes(random, length), pitch);
@@ -100,7 +100,7 @@ fn buffer_ends(checks: &mut Checks, random: &mut XorShift) {
     for (format, _) in DEPTHS {
         for size in [(1, 1), (1, 2), (2, 1), (3, 2), (5, 3), (17, 4)] {
             let mut exact = DepthCall::accepted(random, format, size.0, size.1);
-            let row = size.0 * paper::packed_bytes(format).expect("a depth format");
+            let row = size.0 * rules::packed_bytes(format).expect("a depth format");
             let packed = (size.1 - 1) * exact.packed_pitch + row;
             let (depth, stencil) = (exact.planes.depth_pitch, exact.planes.stencil_pitch);
             let (depth, stencil) = (depth * size.1, stencil * size.1);
@@ -191,7 +191,7 @@ fn every_code(checks: &mut Checks, random: &mut XorShift) {
 
 /// A picture of these pixels, without padding: unpacked; its planes packed; restored.
 fn picture(checks: &mut Checks, random: &mut XorShift, format: u32, width: usize, packed: Vec<u8>) {
-    let packed_pitch = width * paper::packed_bytes(format).expect("a depth format");
+    let packed_pitch = width * rules::packed_bytes(format).expect("a depth format");
     let height = packed.len() / packed_pitch;
     let planes = Planes {
         width,
@@ -213,7 +213,7 @@ fn picture(checks: &mut Checks, random: &mut XorShift, format: u32, width: usize
 /// Packs these depths in a format, `width` a row.
 fn pack_depths(checks: &mut Checks, format: u32, width: usize, depths: Vec<u8>) {
     let height = depths.len() / 4 / width;
-    let packed_pitch = width * paper::packed_bytes(format).expect("a depth format");
+    let packed_pitch = width * rules::packed_bytes(format).expect("a depth format");
     checks.pack(&DepthCall {
         format,
         planes: Planes {

@@ -4,7 +4,7 @@ use crate::{
     calls::{any_code, any32, any64},
     checks::Checks,
     common::XorShift,
-    paper::{NV12, YV12},
+    rules::{NV12, YV12},
 };
 
 pub fn run(checks: &mut Checks, random: &mut XorShift, all: bool) {

@@ -9,7 +9,7 @@ use crate::{
     },
     checks::{Checks, spread},
     common::{XorShift, YuvSet, random_bytes},
-    paper::{BT601, BT709, named},
+    rules::{BT601, BT709, named},
 };
 
 pub fn run(checks: &mut Checks, random: &mut XorShift, all: bool) {

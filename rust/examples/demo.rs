@@ -12,6 +12,10 @@ mod frames;
 mod plant_room;
 #[path = "demo/png.rs"]
 mod png;
+#[path = "demo/shade_card.rs"]
+mod shade_card;
+#[path = "demo/text.rs"]
+mod text;
 #[path = "demo/vial.rs"]
 mod vial;
 
@@ -79,9 +83,9 @@ fn depth_of_a_plant_room(folder: &Path) -> Outcome {
     line!("restored", "all {restored} pixels, depth and stencil");
 
     let ends = [TERMINAL_BOX, CABINET_FRONT].map(|point| camera.pixel(point));
-    print_clearances(&camera, ends, &before, &after);
+    let read = print_clearances(&camera, ends, &before, &after);
     let path = folder.join("plant_room.png");
-    after.drawn(ends).write(&path)?;
+    after.drawn(ends, read).write(&path)?;
     line!("picture", "{}", path.display());
     Ok(())
 }
@@ -99,13 +103,14 @@ fn packed_again(before: &DepthPicture) -> Result<DepthPicture, Refused> {
     Ok(after)
 }
 
-/// Prints the clearance as read before and after, and as it would be read from 16 bits.
+/// Prints the clearance as read before and after, and as it would be read from 16 bits; the one that
+/// is read after.
 fn print_clearances(
     camera: &Camera,
     ends: [(usize, usize); 2],
     before: &DepthPicture,
     after: &DepthPicture,
-) {
+) -> f64 {
     let first = clearance(camera, ends, |pixel| before.metres(pixel));
     let again = clearance(camera, ends, |pixel| after.metres(pixel));
     let cut = clearance(camera, ends, |pixel| before.metres_of_16_bits(pixel));
@@ -113,6 +118,7 @@ fn print_clearances(
     line!("clearance A to B, after", "{again:.4} m");
     let off = (cut - first) * 1000.0;
     line!("cut to 16 bits, it reads", "{cut:.4} m, {off:+.1} mm");
+    again
 }
 
 /// The distance between what two pixels show, in metres.
@@ -144,16 +150,28 @@ fn frames_of_a_vial(folder: &Path) -> Outcome {
         "largest error against the exact values, in 255ths (limit)"
     );
     line!("", "{:<15}{:<15}{:<15}picture", "red", "green", "blue");
+    let mut shades = Vec::new();
     for frame in &frames {
         for (format, name) in [(D3DFMT_A8R8G8B8, "A8R8G8B8"), (D3DFMT_R5G6B5, "R5G6B5")] {
             let mut screen = Screen::new(format);
             screen.show(frame)?;
             let path = folder.join(format!("vial_{}_{name}.png", frame.name).to_lowercase());
-            screen.drawn().write(&path)?;
+            let mut picture = screen.drawn();
+            shades.push(shade_card::show(&mut picture));
+            picture.write(&path)?;
             let what = format!("{} to {name}", frame.name);
             print_errors(&what, &screen.errors(frame), &path)?;
         }
     }
+    let shade = shades[0];
+    if shades.iter().any(|other| *other != shade) {
+        return Err(format!("the shades differ: {shades:?}").into());
+    }
+    line!(
+        "shade of the liquid",
+        "{shade} of the panel, in each of the {} pictures",
+        shades.len()
+    );
     Ok(())
 }
 

@@ -1,29 +1,13 @@
 //! Colour fills and the numbers of a `D3DCOLOR`, which is hexadecimal AARRGGBB.
 
-use std::fmt;
+use alloc::vec::Vec;
+use core::fmt;
 
 use crate::ffi;
 use crate::format::{Named, names_where};
 use crate::refusal::{Call, Refused, accepted};
 
-/// One texel's bytes for a fill: the first `len` of `bytes`, and zeros after them.
-///
-/// ```
-/// use wentuqis::convert::try_d3dcolor_fill_pixel_bytes;
-/// use wentuqis::format::D3DFMT_R5G6B5;
-///
-/// let fill = try_d3dcolor_fill_pixel_bytes(0xdead_beef, D3DFMT_R5G6B5)?;
-/// assert_eq!(fill.len, 2);
-/// assert_eq!(fill.bytes[..3], [0xfd, 0xad, 0]);
-/// # Ok::<(), wentuqis::Refused>(())
-/// ```
-#[derive(Clone, Copy, Debug, PartialEq, Eq)]
-pub struct FillPixel {
-    /// The texel, then zeros.
-    pub bytes: [u8; 16],
-    /// Bytes of the texel, 1 to 16.
-    pub len: usize,
-}
+pub use crate::shapes::FillPixel;
 
 impl FillPixel {
     /// The texel's bytes alone.
@@ -37,7 +21,7 @@ impl FillPixel {
     /// ```
     #[must_use]
     pub fn as_slice(&self) -> &[u8] {
-        &self.bytes[..self.len.min(self.bytes.len())]
+        &self.bytes[..self.bytes.len().min(self.length as usize)]
     }
 }
 
@@ -73,13 +57,13 @@ pub fn d3dcolor_fill_pixel_bytes(color: u32, d3d_format: u32) -> Option<Vec<u8>>
 /// # Ok::<(), wentuqis::Refused>(())
 /// ```
 pub fn try_d3dcolor_fill_pixel_bytes(color: u32, d3d_format: u32) -> Result<FillPixel, Refused> {
-    let (mut bytes, mut length) = ([0; 16], 0);
-    let reply = ffi::wentuqis_d3dcolor_fill_pixel_bytes(color, d3d_format, &mut bytes, &mut length);
+    let mut fill = FillPixel {
+        bytes: [0; 16],
+        length: 0,
+    };
+    let reply = ffi::wentuqis_d3dcolor_fill_pixel_bytes(color, d3d_format, &mut fill);
     accepted(reply, || Call::Fill(FillCall { format: d3d_format }))?;
-    Ok(FillPixel {
-        bytes,
-        len: length as usize,
-    })
+    Ok(fill)
 }
 
 /// Repeats `pixel` over all of `dst`: byte `i` becomes `pixel[i % pixel.len()]`.
@@ -134,7 +118,7 @@ pub fn d3dcolor_to_rgba_f32(color: u32) -> [f32; 4] {
 }
 
 /// The argument of a refused fill.
-#[derive(Clone, Copy, Debug, PartialEq, Eq)]
+#[derive(Clone, Copy, Debug, PartialEq, Eq, Hash)]
 pub(crate) struct FillCall {
     format: u32,
 }

@@ -5,7 +5,7 @@
 //! restores every pixel of D16 and D24S8, whatever the packed pitches. Refused, a call leaves every
 //! byte it was lent.
 
-use std::fmt;
+use core::fmt;
 
 use crate::ffi;
 use crate::format::{D3DFMT_D16, D3DFMT_D24S8, D3DFMT_D24X8, Named};
@@ -133,7 +133,12 @@ impl PlaneLayout {
     /// # Ok::<(), wentuqis::Refused>(())
     /// ```
     pub fn try_new(width: u32, height: u32, alignment: u32) -> Result<Self, Refused> {
-        let mut layout = [0; 4];
+        let mut layout = Self {
+            width: 0,
+            height: 0,
+            depth_pitch: 0,
+            stencil_pitch: 0,
+        };
         let reply = ffi::wentuqis_plane_layout(width, height, alignment, &mut layout);
         accepted(reply, || {
             Call::Planes(PlanesCall {
@@ -142,13 +147,7 @@ impl PlaneLayout {
                 alignment,
             })
         })?;
-        let [width, height, depth_pitch, stencil_pitch] = layout.map(|number| number as usize);
-        Ok(Self {
-            width,
-            height,
-            depth_pitch,
-            stencil_pitch,
-        })
+        Ok(layout)
     }
 
     /// Unpacks `packed` into the two planes; false if refused, and both planes are then as they were.
@@ -173,7 +172,7 @@ impl PlaneLayout {
         depth: &mut [u8],
         stencil: &mut [u8],
     ) -> bool {
-        ffi::unpack(format.code(), self, packed, packed_pitch, depth, stencil) == 0
+        ffi::unpack(depth, stencil, packed, packed_pitch, format.code(), self) == 0
     }
 
     /// [`unpack`](Self::unpack) for a format code, with the reason if it refuses.
@@ -207,7 +206,7 @@ impl PlaneLayout {
         depth: &mut [u8],
         stencil: &mut [u8],
     ) -> Result<(), Refused> {
-        let reply = ffi::unpack(format, self, packed, packed_pitch, depth, stencil);
+        let reply = ffi::unpack(depth, stencil, packed, packed_pitch, format, self);
         accepted(reply, || {
             self.pack_call(format, packed, packed_pitch, depth, stencil)
         })
@@ -234,7 +233,7 @@ impl PlaneLayout {
         packed: &mut [u8],
         packed_pitch: usize,
     ) -> bool {
-        ffi::pack(format.code(), self, depth, stencil, packed, packed_pitch) == 0
+        ffi::pack(packed, packed_pitch, depth, stencil, format.code(), self) == 0
     }
 
     /// [`pack`](Self::pack) for a format code, with the reason if it refuses.
@@ -264,7 +263,7 @@ impl PlaneLayout {
         packed: &mut [u8],
         packed_pitch: usize,
     ) -> Result<(), Refused> {
-        let reply = ffi::pack(format, self, depth, stencil, packed, packed_pitch);
+        let reply = ffi::pack(packed, packed_pitch, depth, stencil, format, self);
         accepted(reply, || {
             self.pack_call(format, packed, packed_pitch, depth, stencil)
         })
@@ -290,7 +289,7 @@ impl PlaneLayout {
 }
 
 /// The arguments of a refused plane layout.
-#[derive(Clone, Copy, Debug, PartialEq, Eq)]
+#[derive(Clone, Copy, Debug, PartialEq, Eq, Hash)]
 pub(crate) struct PlanesCall {
     width: u32,
     height: u32,
@@ -322,7 +321,7 @@ impl PlanesCall {
 }
 
 /// The arguments of a refused unpack or pack.
-#[derive(Clone, Copy, Debug, PartialEq, Eq)]
+#[derive(Clone, Copy, Debug, PartialEq, Eq, Hash)]
 pub(crate) struct PackCall {
     format: u32,
     layout: PlaneLayout,

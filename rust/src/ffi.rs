@@ -1,126 +1,106 @@
 //! The calls of `libwentuqis.a`, and the only `unsafe` of this crate.
 //!
-//! A slice crosses as pointer and length, an array by pointer. What the library asks of its callers
-//! is what a Rust reference gives: no null pointer (an empty slice has a dangling one), initialised
-//! bytes, and no other access to what a `&mut` lends. Replies are the library's own numbers.
-//! Nothing is checked on the way: the library takes any number. oracle/port.rs compiles this file
-//! too.
+//! A slice crosses as pointer and length, a struct or an array by pointer. What the library asks of
+//! its callers is what a Rust reference gives: no null pointer (an empty slice has a dangling one),
+//! initialised and aligned memory, and no other access to what a `&mut` lends. Replies are the
+//! library's own numbers. Nothing is checked on the way: the library takes any number.
+//! oracle/port.rs compiles this file too.
 
-use super::shapes::{ConvertRegion, PlaneLayout, YuvSet};
+use super::shapes::{FillPixel, PlanarYuvLayout, PlaneLayout, Region, YuvSet};
 
-// SAFETY: as include/wentuqis.h declares them; a `safe` call takes only numbers and whole arrays.
-unsafe extern "C" {
-    pub(crate) safe fn wentuqis_can_convert(src_format: u32, dst_format: u32) -> bool;
-    pub(crate) safe fn wentuqis_can_convert_update(src_format: u32, dst_format: u32) -> bool;
-    pub(crate) safe fn wentuqis_d3dcolor_fill_pixel_bytes(
-        color: u32,
-        format: u32,
-        bytes: &mut [u8; 16],
-        length: &mut u32,
-    ) -> u32;
-    pub(crate) safe fn wentuqis_f32_to_f16_bits(bits: u32) -> u16;
-    pub(crate) safe fn wentuqis_d3dcolor_to_rgba_f32(color: u32, rgba: &mut [f32; 4]);
-    pub(crate) safe fn wentuqis_yuv_to_rgb8(luma: u8, cb: u8, cr: u8, rgb: &mut [u8; 3]);
-    pub(crate) safe fn wentuqis_yuv_to_rgb8_by_tables(luma: u8, cb: u8, cr: u8, rgb: &mut [u8; 3]);
-    pub(crate) safe fn wentuqis_plane_layout(
-        width: u32,
-        height: u32,
-        alignment: u32,
-        layout: &mut [u64; 4],
-    ) -> u32;
-    pub(crate) safe fn wentuqis_planar_yuv_layout(
-        format: u32,
-        width: u32,
-        height: u32,
-        layout: &mut [u64; 4],
-    ) -> u32;
-    pub(crate) safe fn wentuqis_planar_yuv_layout_from_pitch(
-        format: u32,
-        pitch: usize,
-        luma_rows: usize,
-        layout: &mut [u64; 4],
-    ) -> u32;
+/// Declares the calls, with their calling convention.
+macro_rules! library {
+    ($convention:literal) => {
+        // SAFETY: as include/wentuqis.h declares them; a `safe` call takes only numbers and references.
+        unsafe extern $convention {
+            pub(crate) safe fn wentuqis_can_convert(src_format: u32, dst_format: u32) -> bool;
+            pub(crate) safe fn wentuqis_can_convert_update(src_format: u32, dst_format: u32) -> bool;
+            pub(crate) safe fn wentuqis_bt601(set: &mut YuvSet);
+            pub(crate) safe fn wentuqis_bt709(set: &mut YuvSet);
+            pub(crate) safe fn wentuqis_yuv_to_rgb8(luma: u8, cb: u8, cr: u8, rgb: &mut [u8; 3]);
+            pub(crate) safe fn wentuqis_yuv_to_rgb8_by_tables(luma: u8, cb: u8, cr: u8, rgb: &mut [u8; 3]);
+            pub(crate) safe fn wentuqis_planar_yuv_layout(
+                format: u32,
+                width: u32,
+                height: u32,
+                layout: &mut PlanarYuvLayout,
+            ) -> u32;
+            pub(crate) safe fn wentuqis_planar_yuv_layout_from_pitch(
+                format: u32,
+                pitch: usize,
+                luma_rows: usize,
+                layout: &mut PlanarYuvLayout,
+            ) -> u32;
+            pub(crate) safe fn wentuqis_d3dcolor_fill_pixel_bytes(
+                color: u32,
+                format: u32,
+                fill: &mut FillPixel,
+            ) -> u32;
+            pub(crate) safe fn wentuqis_f32_to_f16_bits(bits: u32) -> u16;
+            pub(crate) safe fn wentuqis_d3dcolor_to_rgba_f32(color: u32, rgba: &mut [f32; 4]);
+            pub(crate) safe fn wentuqis_plane_layout(
+                width: u32,
+                height: u32,
+                alignment: u32,
+                layout: &mut PlaneLayout,
+            ) -> u32;
 
-    fn wentuqis_convert_region(
-        dst: *mut u8,
-        dst_len: usize,
-        dst_format: u32,
-        src: *const u8,
-        src_len: usize,
-        src_format: u32,
-        src_x: u32,
-        src_y: u32,
-        dst_x: u32,
-        dst_y: u32,
-        width: u32,
-        height: u32,
-        src_pitch: usize,
-        dst_pitch: usize,
-        src_slice_pitch: usize,
-        dst_slice_pitch: usize,
-        depth: usize,
-    ) -> u32;
-    fn wentuqis_convert_region_with_set(
-        dst: *mut u8,
-        dst_len: usize,
-        dst_format: u32,
-        src: *const u8,
-        src_len: usize,
-        src_format: u32,
-        src_x: u32,
-        src_y: u32,
-        dst_x: u32,
-        dst_y: u32,
-        width: u32,
-        height: u32,
-        src_pitch: usize,
-        dst_pitch: usize,
-        src_slice_pitch: usize,
-        dst_slice_pitch: usize,
-        depth: usize,
-        luma_gain: u32,
-        luma_offset: u32,
-        v_to_red: u32,
-        u_to_green: u32,
-        v_to_green: u32,
-        u_to_blue: u32,
-        chroma_centre: u32,
-    ) -> u32;
-    fn wentuqis_splat_pixel_pattern(
-        dst: *mut u8,
-        dst_len: usize,
-        pixel: *const u8,
-        pixel_len: usize,
-    );
-    fn wentuqis_unpack(
-        format: u32,
-        width: usize,
-        height: usize,
-        depth_pitch: usize,
-        stencil_pitch: usize,
-        packed: *const u8,
-        packed_len: usize,
-        packed_pitch: usize,
-        depth: *mut u8,
-        depth_len: usize,
-        stencil: *mut u8,
-        stencil_len: usize,
-    ) -> u32;
-    fn wentuqis_pack(
-        format: u32,
-        width: usize,
-        height: usize,
-        depth_pitch: usize,
-        stencil_pitch: usize,
-        depth: *const u8,
-        depth_len: usize,
-        stencil: *const u8,
-        stencil_len: usize,
-        packed: *mut u8,
-        packed_len: usize,
-        packed_pitch: usize,
-    ) -> u32;
+            fn wentuqis_convert_region(
+                dst: *mut u8,
+                dst_len: usize,
+                dst_format: u32,
+                src: *const u8,
+                src_len: usize,
+                src_format: u32,
+                region: &Region,
+            ) -> u32;
+            fn wentuqis_convert_region_with_set(
+                dst: *mut u8,
+                dst_len: usize,
+                dst_format: u32,
+                src: *const u8,
+                src_len: usize,
+                src_format: u32,
+                region: &Region,
+                set: &YuvSet,
+            ) -> u32;
+            fn wentuqis_splat_pixel_pattern(
+                dst: *mut u8,
+                dst_len: usize,
+                pixel: *const u8,
+                pixel_len: usize,
+            );
+            fn wentuqis_unpack(
+                depth: *mut u8,
+                depth_len: usize,
+                stencil: *mut u8,
+                stencil_len: usize,
+                packed: *const u8,
+                packed_len: usize,
+                packed_pitch: usize,
+                format: u32,
+                layout: &PlaneLayout,
+            ) -> u32;
+            fn wentuqis_pack(
+                packed: *mut u8,
+                packed_len: usize,
+                packed_pitch: usize,
+                depth: *const u8,
+                depth_len: usize,
+                stencil: *const u8,
+                stencil_len: usize,
+                format: u32,
+                layout: &PlaneLayout,
+            ) -> u32;
+        }
+    };
 }
+
+// On x86-64 the convention is System V's on every system, Windows too.
+#[cfg(target_arch = "x86_64")]
+library!("sysv64");
+#[cfg(not(target_arch = "x86_64"))]
+library!("C");
 
 /// Converts a region; replies 0 or a refusal of 1 to 4.
 pub(crate) fn convert_region(
@@ -128,7 +108,7 @@ pub(crate) fn convert_region(
     dst_format: u32,
     src: &[u8],
     src_format: u32,
-    region: &ConvertRegion,
+    region: &Region,
 ) -> u32 {
     // SAFETY: each pointer and length are those of one slice, lent for the whole call.
     unsafe {
@@ -139,29 +119,19 @@ pub(crate) fn convert_region(
             src.as_ptr(),
             src.len(),
             src_format,
-            region.src_x,
-            region.src_y,
-            region.dst_x,
-            region.dst_y,
-            region.width,
-            region.height,
-            region.src_pitch,
-            region.dst_pitch,
-            region.src_slice_pitch,
-            region.dst_slice_pitch,
-            region.depth,
+            region,
         )
     }
 }
 
-/// Converts a region with YUV by these numbers; replies 0 or a refusal of 1 to 4 and 15.
+/// Converts a region with YUV by a set; replies 0 or a refusal of 1 to 4 and 15.
 pub(crate) fn convert_region_with_set(
     dst: &mut [u8],
     dst_format: u32,
     src: &[u8],
     src_format: u32,
-    region: &ConvertRegion,
-    numbers: &YuvSet,
+    region: &Region,
+    set: &YuvSet,
 ) -> u32 {
     // SAFETY: each pointer and length are those of one slice, lent for the whole call.
     unsafe {
@@ -172,24 +142,8 @@ pub(crate) fn convert_region_with_set(
             src.as_ptr(),
             src.len(),
             src_format,
-            region.src_x,
-            region.src_y,
-            region.dst_x,
-            region.dst_y,
-            region.width,
-            region.height,
-            region.src_pitch,
-            region.dst_pitch,
-            region.src_slice_pitch,
-            region.dst_slice_pitch,
-            region.depth,
-            numbers.luma_gain,
-            numbers.luma_offset,
-            numbers.v_to_red,
-            numbers.u_to_green,
-            numbers.v_to_green,
-            numbers.u_to_blue,
-            numbers.chroma_centre,
+            region,
+            set,
         )
     }
 }
@@ -204,56 +158,50 @@ pub(crate) fn splat_pixel_pattern(dst: &mut [u8], pixel: &[u8]) {
 
 /// Unpacks depth; replies 0 or a refusal of 9 to 13.
 pub(crate) fn unpack(
-    format: u32,
-    layout: &PlaneLayout,
-    packed: &[u8],
-    packed_pitch: usize,
     depth: &mut [u8],
     stencil: &mut [u8],
+    packed: &[u8],
+    packed_pitch: usize,
+    format: u32,
+    layout: &PlaneLayout,
 ) -> u32 {
     // SAFETY: each pointer and length are those of one slice, lent for the whole call.
     unsafe {
         wentuqis_unpack(
-            format,
-            layout.width,
-            layout.height,
-            layout.depth_pitch,
-            layout.stencil_pitch,
-            packed.as_ptr(),
-            packed.len(),
-            packed_pitch,
             depth.as_mut_ptr(),
             depth.len(),
             stencil.as_mut_ptr(),
             stencil.len(),
+            packed.as_ptr(),
+            packed.len(),
+            packed_pitch,
+            format,
+            layout,
         )
     }
 }
 
 /// Packs depth; replies 0 or a refusal of 9 to 13.
 pub(crate) fn pack(
-    format: u32,
-    layout: &PlaneLayout,
-    depth: &[u8],
-    stencil: &[u8],
     packed: &mut [u8],
     packed_pitch: usize,
+    depth: &[u8],
+    stencil: &[u8],
+    format: u32,
+    layout: &PlaneLayout,
 ) -> u32 {
     // SAFETY: each pointer and length are those of one slice, lent for the whole call.
     unsafe {
         wentuqis_pack(
-            format,
-            layout.width,
-            layout.height,
-            layout.depth_pitch,
-            layout.stencil_pitch,
+            packed.as_mut_ptr(),
+            packed.len(),
+            packed_pitch,
             depth.as_ptr(),
             depth.len(),
             stencil.as_ptr(),
             stencil.len(),
-            packed.as_mut_ptr(),
-            packed.len(),
-            packed_pitch,
+            format,
+            layout,
         )
     }
 }

@@ -10,7 +10,11 @@
 //! assert_eq!(D3DFMT_YUY2.to_le_bytes(), *b"YUY2");
 //! ```
 
-use std::fmt;
+use alloc::borrow::ToOwned;
+use alloc::format;
+use alloc::string::String;
+use alloc::vec::Vec;
+use core::fmt;
 
 /// Declares each code as a constant and lists all of them with their names.
 macro_rules! codes {
@@ -93,13 +97,27 @@ codes! {
     D3DFMT_NV12 "NV12" u32::from_le_bytes(*b"NV12");
 }
 
-/// Shows a code by its name, or as a number.
+/// Shows a code by its name; a code without one by its four letters, or as a number.
 pub(crate) struct Named(pub(crate) u32);
+
+impl Named {
+    /// The code as four ASCII letters, digits or trailing spaces, the lowest byte first.
+    fn letters(&self) -> Option<String> {
+        let bytes = self.0.to_le_bytes();
+        let used = bytes.trim_ascii_end();
+        let are_letters = !used.is_empty() && used.iter().all(u8::is_ascii_alphanumeric);
+        let text = || bytes.iter().copied().map(char::from).collect();
+        (are_letters && bytes[used.len()..].iter().all(|byte| *byte == b' ')).then(text)
+    }
+}
 
 impl fmt::Display for Named {
     fn fmt(&self, f: &mut fmt::Formatter<'_>) -> fmt::Result {
-        match CODES.iter().find(|(code, _)| *code == self.0) {
-            Some((_, name)) => f.write_str(name),
+        if let Some((_, name)) = CODES.iter().find(|(code, _)| *code == self.0) {
+            return f.write_str(name);
+        }
+        match self.letters() {
+            Some(letters) => write!(f, "format '{letters}'"),
             None => write!(f, "format {}", self.0),
         }
     }

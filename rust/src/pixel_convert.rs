@@ -12,18 +12,23 @@
 //! lacks is 255.
 //!
 //! YUV is converted by a set of numbers. The original has one, [`YuvSet::BT601`], which
-//! [`convert_region`] keeps; [`convert_region_with_set`] takes any, as [`YuvSet::BT709`].
+//! [`convert_region`] keeps; [`convert`] and [`convert_region_with_set`] take any, as
+//! [`YuvSet::BT709`].
+//!
+//! A conversion takes time that grows with width × height × depth, whatever the lengths of the
+//! buffers: with a pitch of 0 a region of any height fits into one row. Nothing is converted in
+//! place: source and destination are two slices.
 
-use std::fmt;
+use core::fmt;
 
 use crate::ffi;
 use crate::format::{
-    D3DFMT_A8R8G8B8, Named, bytes_per_texel, is_packed_yuv, is_planar_yuv, names_where,
+    D3DFMT_A8R8G8B8, D3DFMT_YV12, Named, bytes_per_texel, is_packed_yuv, is_planar_yuv, names_where,
 };
 use crate::planar_yuv::{PlanarYuvLayout, missing_layout, planar_yuv_layout_from_pitch};
 use crate::refusal::{Call, Refusal, Refused, accepted};
 
-pub use crate::shapes::{ConvertRegion, YuvSet};
+pub use crate::shapes::{ConvertRegion, Region, Side, YuvSet};
 
 /// Whether a conversion, by whatever set, takes this source format into this destination format.
 ///
@@ -93,7 +98,8 @@ pub fn convert_region(
     src_format: u32,
     region: &ConvertRegion,
 ) -> bool {
-    ffi::convert_region(dst, dst_format, src, src_format, region) == 0
+    let region = Region::from(*region);
+    ffi::convert_region(dst, dst_format, src, src_format, &region) == 0
 }
 
 /// [`convert_region`], with the reason if it refuses.
@@ -134,9 +140,10 @@ pub fn try_convert_region(
     src_format: u32,
     region: &ConvertRegion,
 ) -> Result<(), Refused> {
-    let reply = ffi::convert_region(dst, dst_format, src, src_format, region);
+    let region = Region::from(*region);
+    let reply = ffi::convert_region(dst, dst_format, src, src_format, &region);
     accepted(reply, || {
-        convert_call(dst, dst_format, src, src_format, region)
+        convert_call(dst, dst_format, src, src_format, &region)
     })
 }
 
@@ -175,7 +182,8 @@ pub fn convert_region_with_set(
     region: &ConvertRegion,
     numbers: &YuvSet,
 ) -> bool {
-    ffi::convert_region_with_set(dst, dst_format, src, src_format, region, numbers) == 0
+    let region = Region::from(*region);
+    ffi::convert_region_with_set(dst, dst_format, src, src_format, &region, numbers) == 0
 }
 
 /// [`convert_region_with_set`], with the reason if it refuses.
@@ -227,23 +235,107 @@ pub fn try_convert_region_with_set(
     region: &ConvertRegion,
     numbers: &YuvSet,
 ) -> Result<(), Refused> {
-    let reply = ffi::convert_region_with_set(dst, dst_format, src, src_format, region, numbers);
+    let region = Region::from(*region);
+    convert(dst, dst_format, src, src_format, &region, numbers)
+}
+
+/// Converts `region` of `src` into `dst`, YUV by the numbers of `set`.
+///
+/// The same conversion as [`try_convert_region_with_set`], of a region that is described by its two
+/// sides. With a source that is not YUV the set is not looked at. The original has no such call.
+///
+/// # Errors
+/// [`Refusal::UnsupportedPair`], [`Refusal::PlanarShape`], [`Refusal::IllegalSet`],
+/// [`Refusal::SourceOutside`] and [`Refusal::DestinationOutside`]; of several the first, in this
+/// order. `dst` is then as it was.
+///
+/// ```
+/// use wentuqis::format::{D3DFMT_A8R8G8B8, D3DFMT_NV12};
+/// use wentuqis::pixel_convert::{Region, Side, YuvSet, convert};
+///
+/// // Four texels of a high-definition camera, two black over two white, without row padding.
+/// let frame = [16, 16, 235, 235, 128, 128];
+/// let region = Region {
+///     source: Side { pitch: 2, slice_pitch: 2 * 2, ..Side::default() },
+///     destination: Side { pitch: 8, ..Side::default() },
+///     ..Region::new(2, 2)
+/// };
+/// let mut screen = [9; 16];
+/// convert(&mut screen, D3DFMT_A8R8G8B8, &frame, D3DFMT_NV12, &region, &YuvSet::BT709)?;
+/// assert_eq!(screen[..8], [0, 0, 0, 255, 0, 0, 0, 255]);
+/// assert_eq!(screen[8..], [255; 8]);
+///
+/// let short = &frame[..5];
+/// let refused = convert(&mut screen, D3DFMT_A8R8G8B8, short, D3DFMT_NV12, &region, &YuvSet::BT709);
+/// assert_eq!(
+///     refused.unwrap_err().to_string(),
+///     "source outside: the frame has 5 bytes, the region needs 6; \
+///      the first texel outside is column 0, row 0"
+/// );
+/// # Ok::<(), wentuqis::Refused>(())
+/// ```
+pub fn convert(
+    dst: &mut [u8],
+    dst_format: u32,
+    src: &[u8],
+    src_format: u32,
+    region: &Region,
+    set: &YuvSet,
+) -> Result<(), Refused> {
+    let reply = ffi::convert_region_with_set(dst, dst_format, src, src_format, region, set);
     accepted(reply, || {
         if reply == Refusal::IllegalSet.number() {
-            Call::Set(SetCall { numbers: *numbers })
+            Call::Set(SetCall { numbers: *set })
         } else {
             convert_call(dst, dst_format, src, src_format, region)
         }
     })
 }
 
-fn convert_call(
-    dst: &[u8],
-    dst_format: u32,
-    src: &[u8],
-    src_format: u32,
-    region: &ConvertRegion,
-) -> Call {
+impl YuvSet {
+    /// The set [`BT601`](Self::BT601) as the library hands it back, where each number is proved to be
+    /// the nearest to its decimal.
+    ///
+    /// ```
+    /// use wentuqis::pixel_convert::YuvSet;
+    ///
+    /// assert_eq!(YuvSet::bt601(), YuvSet::BT601);
+    /// ```
+    #[must_use]
+    pub fn bt601() -> Self {
+        handed_back(|set| ffi::wentuqis_bt601(set))
+    }
+
+    /// The set [`BT709`](Self::BT709) as the library hands it back, where each number is proved to be
+    /// the nearest to its decimal.
+    ///
+    /// ```
+    /// use wentuqis::pixel_convert::YuvSet;
+    ///
+    /// assert_eq!(YuvSet::bt709(), YuvSet::BT709);
+    /// ```
+    #[must_use]
+    pub fn bt709() -> Self {
+        handed_back(|set| ffi::wentuqis_bt709(set))
+    }
+}
+
+/// The set that a call of the library puts into the one it is lent.
+fn handed_back(call: impl FnOnce(&mut YuvSet)) -> YuvSet {
+    let mut set = YuvSet {
+        luma_gain: 0,
+        luma_offset: 0,
+        v_to_red: 0,
+        u_to_green: 0,
+        v_to_green: 0,
+        u_to_blue: 0,
+        chroma_centre: 0,
+    };
+    call(&mut set);
+    set
+}
+
+fn convert_call(dst: &[u8], dst_format: u32, src: &[u8], src_format: u32, region: &Region) -> Call {
     Call::Convert(ConvertCall {
         dst_format,
         dst_len: dst.len(),
@@ -258,7 +350,7 @@ const MAX_GAIN: u32 = 262_143;
 const MAX_LUMA_OFFSET: u32 = 4_194_303;
 
 /// The set of a conversion that was refused for it.
-#[derive(Clone, Copy, Debug, PartialEq, Eq)]
+#[derive(Clone, Copy, Debug, PartialEq, Eq, Hash)]
 pub(crate) struct SetCall {
     numbers: YuvSet,
 }
@@ -300,13 +392,13 @@ impl SetCall {
 }
 
 /// The arguments of a refused conversion.
-#[derive(Clone, Copy, Debug, PartialEq, Eq)]
+#[derive(Clone, Copy, Debug, PartialEq, Eq, Hash)]
 pub(crate) struct ConvertCall {
     dst_format: u32,
     dst_len: usize,
     src_format: u32,
     src_len: usize,
-    region: ConvertRegion,
+    region: Region,
 }
 
 impl ConvertCall {
@@ -335,24 +427,20 @@ impl ConvertCall {
     }
 
     fn explain_shape(&self, f: &mut fmt::Formatter<'_>) -> fmt::Result {
-        let ConvertRegion {
-            src_pitch,
-            src_slice_pitch,
-            depth,
-            ..
-        } = self.region;
+        let Region { source, depth, .. } = self.region;
+        let (pitch, slice_pitch) = (source.pitch, source.slice_pitch);
         let src = Named(self.src_format);
         if depth != 1 {
             write!(
                 f,
                 "a frame of {src} has one slice, and the region has depth {depth}; set it to 1"
             )
-        } else if let Some(whole) = src_slice_pitch.checked_div(src_pitch) {
+        } else if let Some(whole) = slice_pitch.checked_div(pitch) {
             let rows = whole as u128 + 1;
-            let multiple = rows * src_pitch as u128;
+            let multiple = rows * pitch as u128;
             write!(
                 f,
-                "the source slice pitch {src_slice_pitch} is no multiple of the source pitch {src_pitch}; \
+                "the source slice pitch {slice_pitch} is no multiple of the source pitch {pitch}; \
                  {rows} luma rows have {multiple} bytes"
             )
         } else {
@@ -361,45 +449,89 @@ impl ConvertCall {
     }
 
     fn explain_source(&self, f: &mut fmt::Formatter<'_>) -> fmt::Result {
-        let region = &self.region;
-        let addressing = if is_packed_yuv(self.src_format) {
-            Addressing::Macropixels
-        } else if is_planar_yuv(self.src_format) {
-            let rows = region
-                .src_slice_pitch
-                .checked_div(region.src_pitch)
-                .unwrap_or(0);
-            match planar_yuv_layout_from_pitch(self.src_format, region.src_pitch, rows) {
-                Some(layout) => Addressing::Planes(layout),
-                None => return missing_layout(self.src_format, region.src_pitch, rows, f),
-            }
-        } else {
-            Addressing::Texels(bytes_per_texel(self.src_format))
-        };
-        Side {
+        if !is_planar_yuv(self.src_format) {
+            let addressing = if is_packed_yuv(self.src_format) {
+                Addressing::Macropixels
+            } else {
+                Addressing::Texels(bytes_per_texel(self.src_format))
+            };
+            return self.source(addressing).explain(f);
+        }
+        let Side {
+            pitch, slice_pitch, ..
+        } = self.region.source;
+        let rows = slice_pitch.checked_div(pitch).unwrap_or(0);
+        if rows == 0 {
+            return self.explain_slice_pitch(f);
+        }
+        match planar_yuv_layout_from_pitch(self.src_format, pitch, rows) {
+            Some(layout) => self.source(Addressing::Planes(layout)).explain(f)?,
+            None => missing_layout(self.src_format, pitch, rows, f)?,
+        }
+        self.hint_at_chroma_rows(f)
+    }
+
+    /// Says which slice pitch a planar source needs that has 0.
+    fn explain_slice_pitch(&self, f: &mut fmt::Formatter<'_>) -> fmt::Result {
+        let pitch = self.region.source.pitch;
+        let mut rows = self.region_end();
+        if self.src_format == D3DFMT_YV12 {
+            rows = rows.next_multiple_of(2);
+        }
+        let bytes = u128::from(rows) * pitch as u128;
+        write!(
+            f,
+            "the source slice pitch is 0; set it to pitch x luma rows, \
+             {pitch} x {rows} = {bytes} at least"
+        )
+    }
+
+    /// Says what the slice pitch of a planar source is where it is as long as the whole frame, as if
+    /// it counted the chroma rows.
+    fn hint_at_chroma_rows(&self, f: &mut fmt::Formatter<'_>) -> fmt::Result {
+        let Side {
+            pitch, slice_pitch, ..
+        } = self.region.source;
+        if slice_pitch != self.src_len {
+            return Ok(());
+        }
+        let all_rows = (slice_pitch / pitch) as u128;
+        let luma_rows = all_rows * 2 / 3;
+        let chroma_rows = luma_rows.div_ceil(2);
+        let bytes = luma_rows * pitch as u128;
+        if luma_rows + chroma_rows != all_rows || luma_rows < u128::from(self.region_end()) {
+            return Ok(());
+        }
+        write!(
+            f,
+            "; the slice pitch {slice_pitch} is that of the whole frame, and without the chroma rows \
+             it is {pitch} x {luma_rows} = {bytes}"
+        )
+    }
+
+    /// One past the last row of the source that the region has.
+    fn region_end(&self) -> u64 {
+        u64::from(self.region.source.y) + u64::from(self.region.height)
+    }
+
+    fn source(&self, addressing: Addressing) -> Buffer<'_> {
+        Buffer {
             name: "frame",
             format: self.src_format,
             addressing,
             len: self.src_len,
-            x: region.src_x,
-            y: region.src_y,
-            pitch: region.src_pitch,
-            slice_pitch: region.src_slice_pitch,
-            region,
+            side: &self.region.source,
+            region: &self.region,
         }
-        .explain(f)
     }
 
-    fn destination(&self) -> Side<'_> {
-        Side {
+    fn destination(&self) -> Buffer<'_> {
+        Buffer {
             name: "destination",
             format: self.dst_format,
             addressing: Addressing::Texels(bytes_per_texel(self.dst_format)),
             len: self.dst_len,
-            x: self.region.dst_x,
-            y: self.region.dst_y,
-            pitch: self.region.dst_pitch,
-            slice_pitch: self.region.dst_slice_pitch,
+            side: &self.region.destination,
             region: &self.region,
         }
     }
@@ -416,19 +548,16 @@ enum Addressing {
 }
 
 /// The source or the destination of a refused conversion.
-struct Side<'a> {
+struct Buffer<'a> {
     name: &'static str,
     format: u32,
     addressing: Addressing,
     len: usize,
-    x: u32,
-    y: u32,
-    pitch: usize,
-    slice_pitch: usize,
-    region: &'a ConvertRegion,
+    side: &'a Side,
+    region: &'a Region,
 }
 
-impl Side<'_> {
+impl Buffer<'_> {
     /// Says which texel lies outside, and how many bytes there are and are needed.
     fn explain(&self, f: &mut fmt::Formatter<'_>) -> fmt::Result {
         let (_, rows, columns) = self.extent();
@@ -478,7 +607,7 @@ impl Side<'_> {
 
     /// Slices, rows and columns of the region, which has at least one of each: else it is accepted.
     fn extent(&self) -> (u64, u64, u64) {
-        let ConvertRegion {
+        let Region {
             width,
             height,
             depth,
@@ -492,11 +621,11 @@ impl Side<'_> {
     }
 
     fn column(&self, column: u64) -> u64 {
-        u64::from(self.x) + column
+        u64::from(self.side.x) + column
     }
 
     fn row(&self, row: u64) -> u64 {
-        u64::from(self.y) + row
+        u64::from(self.side.y) + row
     }
 
     /// The bytes that a buffer needs to hold this texel of the region; `None` past 128 bits.
@@ -509,8 +638,8 @@ impl Side<'_> {
             Addressing::Texels(bytes) => (u128::from(x) + 1) * u128::from(*bytes),
             Addressing::Macropixels => u128::from(x / 2 + 1) * 4,
         };
-        let slice_start = u128::from(slice) * self.slice_pitch as u128;
-        let row_start = u128::from(y) * self.pitch as u128;
+        let slice_start = u128::from(slice) * self.side.slice_pitch as u128;
+        let row_start = u128::from(y) * self.side.pitch as u128;
         slice_start.checked_add(row_start)?.checked_add(in_row)
     }
 

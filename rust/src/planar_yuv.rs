@@ -4,38 +4,16 @@
 //! has a V plane and then a U plane, in rows of half the pitch; NV12 has one plane of U and V in
 //! pairs, in rows of the whole pitch. Planes are addressed by the pitch and never by the width.
 
-use std::fmt;
+use core::fmt;
 
 use crate::ffi;
 use crate::format::{D3DFMT_NV12, D3DFMT_YV12, Named, is_planar_yuv};
 use crate::refusal::{Call, Refused, accepted};
 
+pub use crate::shapes::PlanarYuvLayout;
+
 /// The largest pitch, the most luma rows, and the most rows in all.
 const MAX_TEXTURE_DIM: u128 = 16384;
-
-/// Where the planes of one planar frame stand.
-///
-/// Offsets take luma coordinates; chroma offsets halve them, so that the four texels of a 2 × 2 block
-/// share one sample. An offset is inside [`total_bytes`](Self::total_bytes) wherever
-/// [`contains`](Self::contains) holds. The numbers come from the library; the methods are plain Rust:
-/// tested, not proved.
-///
-/// ```
-/// use wentuqis::format::D3DFMT_NV12;
-/// use wentuqis::planar_yuv::planar_yuv_layout;
-///
-/// let layout = planar_yuv_layout(D3DFMT_NV12, 6, 3).unwrap();
-/// assert_eq!((layout.pitch(), layout.luma_rows(), layout.chroma_rows()), (8, 3, 2));
-/// assert_eq!((layout.storage_rows(), layout.total_bytes()), (5, 40));
-/// assert_eq!(layout.nv12_uv_offset(5, 2), 36);
-/// ```
-#[derive(Clone, Copy, Debug, PartialEq, Eq)]
-pub struct PlanarYuvLayout {
-    pitch: u32,
-    luma_rows: u32,
-    chroma_rows: u32,
-    total_bytes: usize,
-}
 
 impl PlanarYuvLayout {
     /// Bytes of a luma row.
@@ -46,7 +24,7 @@ impl PlanarYuvLayout {
     /// ```
     #[must_use]
     pub const fn pitch(&self) -> u32 {
-        self.pitch
+        self.pitch as u32
     }
 
     /// Rows of `pitch` bytes in all: the luma rows, then the chroma rows.
@@ -57,7 +35,7 @@ impl PlanarYuvLayout {
     /// ```
     #[must_use]
     pub const fn storage_rows(&self) -> u32 {
-        self.luma_rows + self.chroma_rows
+        (self.luma_rows + self.chroma_rows) as u32
     }
 
     /// Bytes of the whole frame.
@@ -79,7 +57,7 @@ impl PlanarYuvLayout {
     /// ```
     #[must_use]
     pub const fn luma_rows(&self) -> u32 {
-        self.luma_rows
+        self.luma_rows as u32
     }
 
     /// Rows of chroma: half the luma rows, rounded up.
@@ -90,7 +68,7 @@ impl PlanarYuvLayout {
     /// ```
     #[must_use]
     pub const fn chroma_rows(&self) -> u32 {
-        self.chroma_rows
+        self.chroma_rows as u32
     }
 
     /// Offset of the luma byte of texel `(x, y)`.
@@ -101,7 +79,7 @@ impl PlanarYuvLayout {
     /// ```
     #[must_use]
     pub const fn luma_offset(&self, x: usize, y: usize) -> usize {
-        y * self.pitch as usize + x
+        y * self.pitch + x
     }
 
     /// Offset of the NV12 U byte of texel `(x, y)`; its V byte is the next one.
@@ -112,7 +90,7 @@ impl PlanarYuvLayout {
     /// ```
     #[must_use]
     pub const fn nv12_uv_offset(&self, x: usize, y: usize) -> usize {
-        self.chroma_base() + (y / 2) * self.pitch as usize + 2 * (x / 2)
+        self.chroma_base() + (y / 2) * self.pitch + 2 * (x / 2)
     }
 
     /// Offset of the YV12 V byte of texel `(x, y)`.
@@ -134,7 +112,7 @@ impl PlanarYuvLayout {
     /// ```
     #[must_use]
     pub const fn yv12_u_offset(&self, x: usize, y: usize) -> usize {
-        self.yv12_v_offset(x, y) + self.chroma_rows as usize * self.half_pitch()
+        self.yv12_v_offset(x, y) + self.chroma_rows * self.half_pitch()
     }
 
     /// Whether `(x, y)` is a texel of the luma plane, row padding included.
@@ -146,17 +124,17 @@ impl PlanarYuvLayout {
     /// ```
     #[must_use]
     pub const fn contains(&self, x: usize, y: usize) -> bool {
-        x < self.pitch as usize && y < self.luma_rows as usize
+        x < self.pitch && y < self.luma_rows
     }
 
     /// Offset of the first chroma byte, right after the last luma row.
     const fn chroma_base(&self) -> usize {
-        self.pitch as usize * self.luma_rows as usize
+        self.pitch * self.luma_rows
     }
 
     /// Bytes of a YV12 chroma row.
     const fn half_pitch(&self) -> usize {
-        self.pitch as usize / 2
+        self.pitch / 2
     }
 
     /// The bytes that a frame needs to hold texel `(x, y)`, whose last byte is one of chroma.
@@ -170,15 +148,13 @@ impl PlanarYuvLayout {
         last as u128 + 1
     }
 
-    /// The library's four numbers, none of which is above 2^28.
-    fn from_numbers([pitch, luma_rows, chroma_rows, total_bytes]: [u64; 4]) -> Self {
-        Self {
-            pitch: pitch as u32,
-            luma_rows: luma_rows as u32,
-            chroma_rows: chroma_rows as u32,
-            total_bytes: total_bytes as usize,
-        }
-    }
+    /// What a call is lent that hands a layout back.
+    const ZEROS: Self = Self {
+        pitch: 0,
+        luma_rows: 0,
+        chroma_rows: 0,
+        total_bytes: 0,
+    };
 }
 
 /// The layout of a frame of this width and height; its pitch is the width raised to a multiple of 4.
@@ -220,7 +196,7 @@ pub fn try_planar_yuv_layout(
     width: u32,
     height: u32,
 ) -> Result<PlanarYuvLayout, Refused> {
-    let mut layout = [0; 4];
+    let mut layout = PlanarYuvLayout::ZEROS;
     let reply = ffi::wentuqis_planar_yuv_layout(d3d_format, width, height, &mut layout);
     accepted(reply, || {
         Call::Planar(PlanarCall {
@@ -229,7 +205,7 @@ pub fn try_planar_yuv_layout(
             luma_rows: height as usize,
         })
     })?;
-    Ok(PlanarYuvLayout::from_numbers(layout))
+    Ok(layout)
 }
 
 /// The layout of a frame that is known by its pitch and luma rows.
@@ -274,7 +250,7 @@ pub fn try_planar_yuv_layout_from_pitch(
     pitch: usize,
     luma_rows: usize,
 ) -> Result<PlanarYuvLayout, Refused> {
-    let mut layout = [0; 4];
+    let mut layout = PlanarYuvLayout::ZEROS;
     let reply =
         ffi::wentuqis_planar_yuv_layout_from_pitch(d3d_format, pitch, luma_rows, &mut layout);
     accepted(reply, || {
@@ -284,11 +260,11 @@ pub fn try_planar_yuv_layout_from_pitch(
             luma_rows,
         })
     })?;
-    Ok(PlanarYuvLayout::from_numbers(layout))
+    Ok(layout)
 }
 
 /// The arguments of a refused planar layout.
-#[derive(Clone, Copy, Debug, PartialEq, Eq)]
+#[derive(Clone, Copy, Debug, PartialEq, Eq, Hash)]
 pub(crate) struct PlanarCall {
     format: u32,
     columns: Columns,
@@ -296,7 +272,7 @@ pub(crate) struct PlanarCall {
 }
 
 /// What a frame's columns are known by.
-#[derive(Clone, Copy, Debug, PartialEq, Eq)]
+#[derive(Clone, Copy, Debug, PartialEq, Eq, Hash)]
 enum Columns {
     Width(u32),
     Pitch(usize),

@@ -1,6 +1,6 @@
 //! Why a call was refused: the reason as an enum, and an error whose text says what to mend.
 
-use std::{error, fmt};
+use core::{error, fmt};
 
 use crate::convert::FillCall;
 use crate::depth_texture::{PackCall, PlanesCall};
@@ -108,6 +108,35 @@ impl Refusal {
     }
 }
 
+/// The refusal with a number that the library replied with, as [`Refusal::from_number`].
+///
+/// ```
+/// use wentuqis::{Refusal, UnknownRefusal};
+///
+/// assert_eq!(Refusal::try_from(3), Ok(Refusal::SourceOutside));
+/// assert_eq!(Refusal::try_from(0), Err(UnknownRefusal(0)));
+/// assert_eq!(UnknownRefusal(16).to_string(), "16 is the number of no refusal");
+/// ```
+impl TryFrom<u32> for Refusal {
+    type Error = UnknownRefusal;
+
+    fn try_from(number: u32) -> Result<Self, UnknownRefusal> {
+        Self::from_number(number).ok_or(UnknownRefusal(number))
+    }
+}
+
+/// A number that is no refusal's: 0, which is "accepted", or one above 15.
+#[derive(Clone, Copy, Debug, PartialEq, Eq, Hash)]
+pub struct UnknownRefusal(pub u32);
+
+impl fmt::Display for UnknownRefusal {
+    fn fmt(&self, f: &mut fmt::Formatter<'_>) -> fmt::Result {
+        write!(f, "{} is the number of no refusal", self.0)
+    }
+}
+
+impl error::Error for UnknownRefusal {}
+
 impl fmt::Display for Refusal {
     fn fmt(&self, f: &mut fmt::Formatter<'_>) -> fmt::Result {
         f.write_str(match self {
@@ -159,7 +188,7 @@ impl fmt::Display for Refusal {
 ///      the first texel outside is column 63, row 47"
 /// );
 /// ```
-#[derive(Clone, Copy, Debug, PartialEq, Eq)]
+#[derive(Clone, Copy, Debug, PartialEq, Eq, Hash)]
 pub struct Refused {
     /// The reason.
     pub refusal: Refusal,
@@ -167,7 +196,7 @@ pub struct Refused {
 }
 
 /// The call that was refused, without its buffers.
-#[derive(Clone, Copy, Debug, PartialEq, Eq)]
+#[derive(Clone, Copy, Debug, PartialEq, Eq, Hash)]
 pub(crate) enum Call {
     Convert(ConvertCall),
     Set(SetCall),

@@ -1,12 +1,107 @@
-//! What a caller describes in plain numbers: a region to convert, a set of YUV numbers, the rows of
-//! two planes. All are public in the modules of their calls; they stand here because `ffi` needs no
-//! more of the crate than this, and oracle/ compiles the two files as they are.
+//! The structs that cross the boundary, and the original's flat region. The fields of those that
+//! are `repr(C)` are those of include/wentuqis.h, in the same order; tests/structs.sh holds sizes
+//! and offsets of C, Rust and Rattle against each other. All are public in the modules of their
+//! calls; they stand here because `ffi` needs no more of the crate than this, and oracle/ and
+//! tests/ compile this file as it is.
+
+/// Where the texels of a region lie in one of the two buffers.
+///
+/// The texel in slice z, row y and column x of the region starts at byte
+/// z × `slice_pitch` + (`self.y` + y) × `pitch` + (`self.x` + x) × (bytes of a texel); a packed YUV
+/// texel needs its whole macropixel of four bytes. A pitch may be 0 or any other number. Of a planar
+/// source, `slice_pitch` is `pitch` × the number of luma rows.
+///
+/// ```
+/// use wentuqis::pixel_convert::Side;
+///
+/// // A cutout of a padded picture, from column 8 of row 2 on.
+/// let side = Side {
+///     pitch: 2624,
+///     x: 8,
+///     y: 2,
+///     ..Side::default()
+/// };
+/// assert_eq!(side.slice_pitch, 0);
+/// ```
+#[derive(Clone, Copy, Debug, Default, PartialEq, Eq, Hash)]
+#[repr(C)]
+pub struct Side {
+    /// Bytes from a row to the next.
+    pub pitch: usize,
+    /// Bytes from a slice to the next.
+    pub slice_pitch: usize,
+    /// First column, in texels.
+    pub x: u32,
+    /// First row.
+    pub y: u32,
+}
+
+/// A region to convert: where it lies in source and destination, and its extent.
+///
+/// `depth` is 1 for a 2D level or a cube face, and the slice count of a volume level; a region with
+/// width, height or depth 0 has no texel. [`new`](Self::new) sets the extent of one slice, and the
+/// two sides are set by name.
+///
+/// ```
+/// use wentuqis::pixel_convert::{Region, Side};
+///
+/// // A frame of NV12 without row padding, 640 x 480, into A8R8G8B8.
+/// let region = Region {
+///     source: Side { pitch: 640, slice_pitch: 640 * 480, ..Side::default() },
+///     destination: Side { pitch: 2560, ..Side::default() },
+///     ..Region::new(640, 480)
+/// };
+/// assert_eq!(region.depth, 1);
+/// ```
+#[derive(Clone, Copy, Debug, PartialEq, Eq, Hash)]
+#[repr(C)]
+pub struct Region {
+    /// Where the texels are read.
+    pub source: Side,
+    /// Where they are written.
+    pub destination: Side,
+    /// Slices to convert.
+    pub depth: usize,
+    /// Columns to convert.
+    pub width: u32,
+    /// Rows to convert.
+    pub height: u32,
+}
+
+impl Region {
+    /// A region of `width` by `height` texels in one slice, whose sides are all zeros.
+    ///
+    /// ```
+    /// use wentuqis::pixel_convert::{Region, Side};
+    ///
+    /// let region = Region::new(640, 480);
+    /// assert_eq!((region.width, region.height, region.depth), (640, 480, 1));
+    /// assert_eq!(region.source, Side::default());
+    /// ```
+    #[must_use]
+    pub const fn new(width: u32, height: u32) -> Self {
+        const ZEROS: Side = Side {
+            pitch: 0,
+            slice_pitch: 0,
+            x: 0,
+            y: 0,
+        };
+        Self {
+            source: ZEROS,
+            destination: ZEROS,
+            depth: 1,
+            width,
+            height,
+        }
+    }
+}
 
 /// One [`convert_region`] copy: the shared extent, both origins, both layouts.
 ///
 /// Origins and extent are in texels, pitches in bytes. `depth` is 1 for a 2D level or a cube face,
-/// and the slice count of a volume level. Of a planar source, `src_slice_pitch / src_pitch` is the
-/// number of luma rows.
+/// and the slice count of a volume level; a forgotten depth is 0, and nothing is then written. Of a
+/// planar source, `src_slice_pitch / src_pitch` is the number of luma rows. [`Region`] has the same
+/// numbers by side.
 ///
 /// ```
 /// use wentuqis::pixel_convert::ConvertRegion;
@@ -23,7 +118,7 @@
 /// ```
 ///
 /// [`convert_region`]: crate::pixel_convert::convert_region
-#[derive(Clone, Copy, Debug, Default, PartialEq, Eq)]
+#[derive(Clone, Copy, Debug, Default, PartialEq, Eq, Hash)]
 pub struct ConvertRegion {
     /// First column of the source.
     pub src_x: u32,
@@ -47,6 +142,37 @@ pub struct ConvertRegion {
     pub dst_slice_pitch: usize,
     /// Slices to convert.
     pub depth: usize,
+}
+
+/// The same region.
+///
+/// ```
+/// use wentuqis::pixel_convert::{ConvertRegion, Region};
+///
+/// let flat = ConvertRegion { src_x: 7, dst_pitch: 16, depth: 1, ..ConvertRegion::default() };
+/// let region = Region::from(flat);
+/// assert_eq!((region.source.x, region.destination.pitch, region.depth), (7, 16, 1));
+/// ```
+impl From<ConvertRegion> for Region {
+    fn from(flat: ConvertRegion) -> Self {
+        Self {
+            source: Side {
+                pitch: flat.src_pitch,
+                slice_pitch: flat.src_slice_pitch,
+                x: flat.src_x,
+                y: flat.src_y,
+            },
+            destination: Side {
+                pitch: flat.dst_pitch,
+                slice_pitch: flat.dst_slice_pitch,
+                x: flat.dst_x,
+                y: flat.dst_y,
+            },
+            depth: flat.depth,
+            width: flat.width,
+            height: flat.height,
+        }
+    }
 }
 
 /// The numbers by which [`convert_region_with_set`] takes a YUV sample to red, green and blue.
@@ -77,7 +203,8 @@ pub struct ConvertRegion {
 /// ```
 ///
 /// [`convert_region_with_set`]: crate::pixel_convert::convert_region_with_set
-#[derive(Clone, Copy, Debug, PartialEq, Eq)]
+#[derive(Clone, Copy, Debug, PartialEq, Eq, Hash)]
+#[repr(C)]
 pub struct YuvSet {
     /// Gain of luma, 0 to 262143: 255 / 219 where the code of luma is 219 E'Y + 16.
     pub luma_gain: u32,
@@ -171,7 +298,8 @@ impl YuvSet {
 /// let layout = PlaneLayout::new(5, 3, 16).unwrap();
 /// assert_eq!((layout.depth_pitch, layout.stencil_pitch), (32, 16));
 /// ```
-#[derive(Clone, Copy, Debug, PartialEq, Eq)]
+#[derive(Clone, Copy, Debug, PartialEq, Eq, Hash)]
+#[repr(C)]
 pub struct PlaneLayout {
     /// Pixels of a row.
     pub width: usize,
@@ -181,4 +309,49 @@ pub struct PlaneLayout {
     pub depth_pitch: usize,
     /// Bytes from a row of the stencil plane to the next.
     pub stencil_pitch: usize,
+}
+
+/// Where the planes of one planar frame stand.
+///
+/// Offsets take luma coordinates; chroma offsets halve them, so that the four texels of a 2 × 2 block
+/// share one sample. An offset is inside [`total_bytes`](Self::total_bytes) wherever
+/// [`contains`](Self::contains) holds. The numbers come from the library; the methods are plain Rust:
+/// tested, not proved.
+///
+/// ```
+/// use wentuqis::format::D3DFMT_NV12;
+/// use wentuqis::planar_yuv::planar_yuv_layout;
+///
+/// let layout = planar_yuv_layout(D3DFMT_NV12, 6, 3).unwrap();
+/// assert_eq!((layout.pitch(), layout.luma_rows(), layout.chroma_rows()), (8, 3, 2));
+/// assert_eq!((layout.storage_rows(), layout.total_bytes()), (5, 40));
+/// assert_eq!(layout.nv12_uv_offset(5, 2), 36);
+/// ```
+#[derive(Clone, Copy, Debug, PartialEq, Eq, Hash)]
+#[repr(C)]
+pub struct PlanarYuvLayout {
+    pub(crate) pitch: usize,
+    pub(crate) luma_rows: usize,
+    pub(crate) chroma_rows: usize,
+    pub(crate) total_bytes: usize,
+}
+
+/// One texel's bytes for a fill: the first `length` of `bytes`, and zeros after them.
+///
+/// ```
+/// use wentuqis::convert::try_d3dcolor_fill_pixel_bytes;
+/// use wentuqis::format::D3DFMT_R5G6B5;
+///
+/// let fill = try_d3dcolor_fill_pixel_bytes(0xdead_beef, D3DFMT_R5G6B5)?;
+/// assert_eq!(fill.length, 2);
+/// assert_eq!(fill.bytes[..3], [0xfd, 0xad, 0]);
+/// # Ok::<(), wentuqis::Refused>(())
+/// ```
+#[derive(Clone, Copy, Debug, PartialEq, Eq, Hash)]
+#[repr(C)]
+pub struct FillPixel {
+    /// The texel, then zeros.
+    pub bytes: [u8; 16],
+    /// Bytes of the texel, 1 to 16.
+    pub length: u32,
 }

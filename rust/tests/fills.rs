@@ -37,8 +37,12 @@ fn fills_of_every_format() {
     ] {
         let fill = try_d3dcolor_fill_pixel_bytes(COLOUR, format).unwrap();
         assert_eq!(fill.as_slice(), expected);
-        assert_eq!(fill.len, expected.len());
-        assert!(fill.bytes[fill.len..].iter().all(|byte| *byte == 0));
+        assert_eq!(fill.length as usize, expected.len());
+        assert!(
+            fill.bytes[fill.length as usize..]
+                .iter()
+                .all(|byte| *byte == 0)
+        );
         assert_eq!(d3dcolor_fill_pixel_bytes(COLOUR, format), Some(expected));
     }
 }
@@ -61,7 +65,7 @@ fn ten_bit_and_wide_fills() {
     let floats = try_d3dcolor_fill_pixel_bytes(COLOUR, D3DFMT_A32B32G32R32F).unwrap();
     let rgba = d3dcolor_to_rgba_f32(COLOUR).map(f32::to_le_bytes);
     assert_eq!(floats.bytes, *rgba.as_flattened());
-    assert_eq!(floats.len, 16);
+    assert_eq!(floats.length, 16);
 }
 
 #[test]

@@ -5,7 +5,7 @@ mod common;
 
 use std::fmt::Debug;
 
-use common::{Numbers, RGB, TO_A8R8G8B8, but, bytes, region};
+use common::{Numbers, RGB, TO_A8R8G8B8, but, bytes, random_region, region};
 use wentuqis::convert::try_d3dcolor_fill_pixel_bytes;
 use wentuqis::depth_texture::PlaneLayout;
 use wentuqis::format::*;
@@ -53,7 +53,7 @@ fn unsupported_pairs() {
     );
     assert_eq!(
         pair_text(827_611_204, D3DFMT_A8R8G8B8),
-        "unsupported pair: format 827611204 converts into nothing; \
+        "unsupported pair: format 'DXT1' converts into nothing; \
          the sources are R8G8B8, A8R8G8B8, X8R8G8B8, R5G6B5, X1R5G5B5, A1R5G5B5, A4R4G4B4, A8, \
          A2B10G10R10, A8B8G8R8, X8B8G8R8, G16R16, A2R10G10B10, A16B16G16R16, L8, A8L8, V8U8, \
          Q8W8V8U8, L16, A32B32G32R32F, YUY2, UYVY, YV12 and NV12"
@@ -62,6 +62,26 @@ fn unsupported_pairs() {
         pair_text(D3DFMT_A16B16G16R16, D3DFMT_R5G6B5),
         "unsupported pair: A16B16G16R16 does not convert into R5G6B5, only into A8R8G8B8"
     );
+}
+
+#[test]
+fn codes_without_a_name() {
+    let named = |code| {
+        let said = text(try_planar_yuv_layout(code, 6, 4));
+        let said = said.strip_prefix("no planar layout: ").unwrap();
+        said.strip_suffix(" is not planar; use YV12 or NV12")
+            .unwrap()
+            .to_owned()
+    };
+    assert_eq!(named(D3DFMT_D16), "D16");
+    assert_eq!(named(u32::from_le_bytes(*b"INTZ")), "format 'INTZ'");
+    assert_eq!(named(u32::from_le_bytes(*b"R2  ")), "format 'R2  '");
+    // no four letters: a number alone, a space before a letter, and bytes that are none
+    assert_eq!(named(1), "format 1");
+    assert_eq!(named(u32::from_le_bytes(*b"A\0\0\0")), "format 65");
+    assert_eq!(named(u32::from_le_bytes(*b"A  B")), "format 1109401665");
+    assert_eq!(named(u32::from_le_bytes(*b"    ")), "format 538976288");
+    assert_eq!(named(u32::MAX), "format 4294967295");
 }
 
 #[test]
@@ -229,8 +249,48 @@ fn planar_frames() {
     assert_eq!(
         convert_text(32, 12, D3DFMT_YV12, &odd),
         "source outside: no frame of YV12 has this pitch and slice pitch: \
+         YV12 has an even number of luma rows, not 3; \
+         the slice pitch 12 is that of the whole frame, and without the chroma rows \
+         it is 4 x 2 = 8"
+    );
+    assert_eq!(
+        convert_text(32, 13, D3DFMT_YV12, &odd),
+        "source outside: no frame of YV12 has this pitch and slice pitch: \
          YV12 has an even number of luma rows, not 3"
     );
+}
+
+#[test]
+fn slice_pitches_of_planar_frames() {
+    let zero = |format, rows, src_y| {
+        let region = but(region(4, rows, 6, 16), |r| r.src_y = src_y);
+        convert_text(96, 36, format, &region)
+    };
+    assert_eq!(
+        zero(D3DFMT_NV12, 3, 0),
+        "source outside: the source slice pitch is 0; set it to pitch x luma rows, 6 x 3 = 18 at least"
+    );
+    assert_eq!(
+        zero(D3DFMT_YV12, 3, 2),
+        "source outside: the source slice pitch is 0; set it to pitch x luma rows, 6 x 6 = 36 at least"
+    );
+
+    // a frame of 4 luma rows and 2 chroma rows, or of 5 and 3, whose chroma rows are counted too
+    let whole = |rows, bytes| {
+        let region = but(region(4, rows, 6, 16), |r| r.src_slice_pitch = bytes);
+        convert_text(96, bytes, D3DFMT_NV12, &region)
+    };
+    assert_eq!(
+        whole(4, 36),
+        "source outside: the frame has 36 bytes, the region needs 46; \
+         the first texel outside is column 0, row 0; \
+         the slice pitch 36 is that of the whole frame, and without the chroma rows it is 6 x 4 = 24"
+    );
+    assert!(whole(5, 48).ends_with("without the chroma rows it is 6 x 5 = 30"));
+    // no frame has 4 or 7 rows in all, and one of 6 has not the 5 rows of the region: no hint
+    for (rows, bytes) in [(2, 24), (4, 42), (5, 36)] {
+        assert!(!whole(rows, bytes).contains("chroma rows"), "{rows} rows");
+    }
 }
 
 #[test]
@@ -401,10 +461,6 @@ fn planar_layouts() {
 fn refusals_are_errors() {
     let refused: Box<dyn std::error::Error> = Box::new(PlaneLayout::try_new(1, 0, 4).unwrap_err());
     assert!(refused.to_string().starts_with("zero size"));
-    for number in 1..=15 {
-        let refusal = Refusal::from_number(number).unwrap();
-        assert_eq!(refusal.number(), number);
-    }
     assert_eq!(Refusal::from_number(15), Some(Refusal::IllegalSet));
     assert_eq!(Refusal::from_number(16), None);
 }
@@ -415,25 +471,6 @@ fn needed(refused: &Refused) -> Option<usize> {
     let (_, rest) = text.split_once("needs ")?;
     let (number, _) = rest.split_once(';')?;
     number.parse().ok()
-}
-
-/// A small region with random numbers; a third of them name no texels that fit.
-fn random_region(numbers: &mut Numbers) -> ConvertRegion {
-    let mut small = |bound| numbers.below(bound) as usize;
-    let src_pitch = 2 * small(20);
-    ConvertRegion {
-        src_x: small(4) as u32,
-        src_y: small(4) as u32,
-        dst_x: small(4) as u32,
-        dst_y: small(4) as u32,
-        width: small(6) as u32,
-        height: small(6) as u32,
-        src_pitch,
-        dst_pitch: small(40),
-        src_slice_pitch: src_pitch * small(10),
-        dst_slice_pitch: small(200),
-        depth: 1 + small(2),
-    }
 }
 
 /// Lends what the texts ask for until none does; one byte less must be refused for the same reason.
@@ -463,7 +500,10 @@ fn lending_what_a_text_asks_for_mends_it() {
     let mut numbers = Numbers::new(7);
     let mut count = 0;
     for _ in 0..20_000 {
-        let region = random_region(&mut numbers);
+        let region = ConvertRegion {
+            depth: 1 + numbers.below(2) as usize,
+            ..random_region(&mut numbers, false)
+        };
         let src_format = sources[numbers.below(sources.len() as u64) as usize];
         let lens = [numbers.below(300) as usize, numbers.below(300) as usize];
         count += mended(lens, src_format, &region);

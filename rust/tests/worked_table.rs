@@ -1,4 +1,4 @@
-//! The worked table of document 01, row by row: P1 to P11, then the rows without a mark.
+//! The worked table (docs/RULES.md, Worked table), row by row: P1 to P11, then the rows without a mark.
 
 mod common;
 

@@ -1,10 +1,22 @@
 -- How near each way of reading or writing a channel comes to its exact value. Assumes nothing.
-use Rattle.std.proofs.Common.{◌≡◌, ℕ, ◌*◌, ◌-◌, ◌^◌, ◌≤◌, ◌<◌, inl, inr, arith, le_of_lt, mul_assoc, lt-ltb, le-ltb}
+use Rattle.std.specs.Prelude.{ℕ, ◌-◌, ◌^◌, ◌≤◌, ◌<◌}
+use Rattle.std.proofs.Common.{arith, pow_mono, ◌≡◌, ◌*◌, inl, inr, le_of_lt, mul_assoc, lt-ltb, le-ltb}
 use Rattle.std.proofs.Math.Path.{refl}
 use Rattle.std.proofs.lemmas.Bool.{cases_lt}
-use Rattle.channels.specs.Fractions.{◌over◌, Near, whole_near, near_sym}
-use Rattle.channels.specs.Expansion.{expanded, truncated, expands, truncates}
-use Rattle.channels.specs.Exact.{code_value, not_negative, ones_pos}
+use Rattle.channels.specs.Fractions.{◌over◌, Near}
+use Rattle.channels.proofs.FractionsLaws.{whole_near, near_sym}
+use Rattle.channels.specs.Nearest.{rounded}
+use Rattle.channels.proofs.Nearest.{rounded_below, rounded_above}
+use Rattle.channels.specs.Expansion.{expanded, truncated}
+use Rattle.channels.proofs.ExpansionLaws.{expands, truncates}
+use Rattle.channels.specs.Exact.{code_value, not_negative}
+
+pub ones_pos : (n : ℕ) → 1 ≤ n → 0 < 2 ^ n - 1
+ones_pos n h = omega (arith, pow_mono {i = 1} {j = n} h)
+
+-- a rounded fraction lies within 1/2 of it
+pub rounded_near : (n d : ℕ) → 0 < d → Near 2 (rounded n d over 1) (n over d)
+rounded_near n d D = whole_near 2 (rounded n d) n d D (omega (arith, rounded_below n d)) (omega (arith, rounded_above n d D))
 
 -- a code with a sign is at most 2^(n-1) - 1
 module _ (n k : ℕ) where

@@ -1,13 +1,13 @@
 -- The code nearest to a binary32 number: a pattern counts as one from 0 to one, which stands for a significand over a power of two. Assumes nothing.
-use Rattle.std.specs.Prelude.{leb}
 use Rattle.std.proofs.Common.{◌≡◌, sym, ap, ◌∙◌, inl, inr, ⊎_elim, ℕ, suc, ◌+◌, ◌-◌, ◌*◌, ◌/◌, ◌%◌, ◌^◌, ◌≤◌, ◌<◌, min, le_of_lt, mul_comm, mul_assoc, mul-le-mul, mul-le-mul_right, arith, pow_pos, shr-shr}
-use Rattle.std.proofs.lemmas.Bool.{cases_lt, le-leb, lt-leb}
-use Rattle.words.specs.Tests.{pick}
+use Rattle.std.proofs.lemmas.Bool.{cases_lt}
 use Rattle.std.proofs.Math.Nat.{div-eq_of_lt, min-eq_left, min-eq_right, pow-succ'}
 use Rattle.std.specs.Float.{binary32}
 use Rattle.std.specs.Float.Ieee.{of_bits}
-use Rattle.channels.specs.Nearest.{rounded, rounded_none, rounded_whole, rounded_same, rounded_halved}
-use Rattle.channels.specs.Floats.{clamped, bottom_pos, as_zero, high_pattern, small_pattern, normal_pattern}
+use Rattle.channels.specs.Nearest.{rounded}
+use Rattle.channels.proofs.Nearest.{rounded_none, rounded_whole, rounded_same, rounded_halved}
+use Rattle.channels.specs.Floats.{clamped}
+use Rattle.channels.proofs.FloatsLaws.{bottom_pos, as_zero, high_pattern, small_pattern, normal_pattern}
 
 product : (u max : ℕ) → max < 16777216 → (8388608 + u % 8388608) * max ≤ 281474976710656
 product u max h = let l : 8388608 + u % 8388608 ≤ 16777216 = omega arith in mul-le-mul l (le_of_lt h)
@@ -31,8 +31,8 @@ module _ (max : ℕ) where
   ]
 
   code_number : (b r : ℕ) → (b ≤ 2139095040 → r ≡ b) → (2139095040 < b → r ≡ 0) → code (min r 1065353216) ≡ code b
-  code_number b r number other = elim (cases_lt 2139095040 b) [
-    | inl l ↦ ap (λ z. code (min z 1065353216)) (other l) ∙ ap (λ x. rounded (max * x.top) x.bottom) (as_zero b l)
+  code_number b r number none = elim (cases_lt 2139095040 b) [
+    | inl l ↦ ap (λ z. code (min z 1065353216)) (none l) ∙ ap (λ x. rounded (max * x.top) x.bottom) (as_zero b l)
     | inr l ↦ ap (λ z. code (min z 1065353216)) (number l) ∙ code_unit b l
   ]
 
@@ -63,15 +63,8 @@ module _ (max : ℕ) where
     computed : shifted max u (min (127 - u / 8388608) 31) ≡ code u
     computed = ⊎_elim code_small code_normal (cases_lt u 805306368)
 
--- the pattern that counts: 0 for a NaN's and for that of what is negative
-abbrev pub number_of : ℕ → ℕ
-number_of b = pick (leb b 2139095040) b 0
-
-number_is : (b : ℕ) → (b ≤ 2139095040 → number_of b ≡ b) × (2139095040 < b → number_of b ≡ 0)
-number_is b = (λ h. ap (λ t. pick t b 0) (le-leb b 2139095040 h), λ h. ap (λ t. pick t b 0) (lt-leb b 2139095040 h))
-
-pub nearest_shifted : (max b : ℕ) → max < 16777216
+-- r is the pattern that counts: 0 for a NaN's and for that of what is negative
+pub nearest_shifted : (max b r : ℕ) → max < 16777216 → (b ≤ 2139095040 → r ≡ b) → (2139095040 < b → r ≡ 0)
     → rounded (max * (clamped (of_bits binary32 b)).top) (clamped (of_bits binary32 b)).bottom
-    ≡ ((8388608 + min (number_of b) 1065353216 % 8388608) * max / 4194304 / 2 ^ min (127 - min (number_of b) 1065353216 / 8388608) 31 + 1) / 2
-nearest_shifted max b h =
-    sym (computed max (min (number_of b) 1065353216) h (omega arith) ∙ code_number max b (number_of b) (number_is b).0 (number_is b).1)
+    ≡ ((8388608 + min r 1065353216 % 8388608) * max / 4194304 / 2 ^ min (127 - min r 1065353216 / 8388608) 31 + 1) / 2
+nearest_shifted max b r h number none = sym (computed max (min r 1065353216) h (omega arith) ∙ code_number max b r number none)

@@ -1,9 +1,10 @@
--- Laws on what specs/Nearest.antt and specs/Even.antt define, which rest on laws there. Assumes nothing.
+-- Laws on what specs/Nearest.antt and proofs/Even.antt define, which rest on laws there. Assumes nothing.
 use Rattle.std.proofs.Common.{◌≡◌, ℕ, suc, ◌+◌, ◌-◌, ◌*◌, ◌/◌, ◌%◌, ◌^◌, ◌<◌, sym, ap, ◌∙◌, subst, pow-suc, pow_pos, mul_comm, arith}
 use Rattle.std.proofs.lemmas.Nat.{one_shl}
 use Rattle.std.specs.Float.Ieee.Nearest.{closest}
-use Rattle.channels.specs.Even.{closest_added}
-use Rattle.channels.specs.Nearest.{NearestUp, rounded, rounded_up, rounded_by_half}
+use Rattle.channels.proofs.Even.{closest_added}
+use Rattle.channels.specs.Nearest.{NearestUp, rounded}
+use Rattle.channels.proofs.Nearest.{rounded_up, rounded_by_half}
 
 -- ---- a number that is computed so is nearest
 pub is_up : (n d r : ℕ) → 0 < d → r ≡ rounded n d → (r ≡ rounded n d) × NearestUp n d r

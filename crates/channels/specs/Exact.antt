@@ -1,10 +1,8 @@
 -- Exact values of channels, in 255ths of full scale; proofs/ExactLaws says how near each way of reading or writing a channel comes to them.
 -- Assumes nothing.
-use Rattle.std.specs.Prelude.{ℕ, ◌*◌, ◌-◌, ◌^◌, ◌≤◌, ◌<◌, ltb, Float}
-use Rattle.std.proofs.Common.{arith, pow_mono}
+use Rattle.std.specs.Prelude.{ℕ, ◌*◌, ◌-◌, ◌^◌, ltb, Float}
 use Rattle.words.specs.Tests.{pick}
-use Rattle.channels.specs.Fractions.{Fraction, ◌over◌, Near, whole_near}
-use Rattle.channels.specs.Nearest.{rounded, rounded_below, rounded_above}
+use Rattle.channels.specs.Fractions.{Fraction, ◌over◌}
 use Rattle.channels.specs.Floats.{clamped}
 
 -- the exact value of an n-bit code k: 255 k / (2^n - 1)
@@ -22,10 +20,3 @@ signed_value n k = 255 * not_negative n k over (2 ^ (n - 1) - 1)
 -- the exact value of a binary32 channel: 255 times the number clamped to 0..1
 abbrev pub float_value : Float → Fraction
 float_value x = 255 * (clamped x).top over (clamped x).bottom
-
-pub ones_pos : (n : ℕ) → 1 ≤ n → 0 < 2 ^ n - 1
-ones_pos n h = omega (arith, pow_mono {i = 1} {j = n} h)
-
--- a rounded fraction lies within 1/2 of it
-pub rounded_near : (n d : ℕ) → 0 < d → Near 2 (rounded n d over 1) (n over d)
-rounded_near n d D = whole_near 2 (rounded n d) n d D (omega (arith, rounded_below n d)) (omega (arith, rounded_above n d D))

@@ -1,8 +1,7 @@
--- What the contracts cite, and laws that other crates cite.
+-- What the contracts cite.
 pub mod Fractions
 pub mod Expansion
 pub mod Nearest
-pub mod Even
 pub mod Luminance
 pub mod Floats
 pub mod Exact

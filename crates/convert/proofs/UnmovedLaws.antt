@@ -1,15 +1,27 @@
 -- Fills are the original's in their binary16 lanes too. Assumes nothing.
-use Rattle.std.proofs.Common.{◌≡◌, refl, List, [], ◌∷◌, ℕ, ◌+◌, ◌*◌, ◌/◌, ◌^◌, ◌<◌, ap₂, mod-lt, lit<}
+use Rattle.std.specs.Prelude.{◌≡◌, Bool, false, not, ℕ, ◌<◌}
 use Rattle.std.specs.Float.{binary32}
-use Rattle.std.specs.Float.Ieee.{to_bits}
+use Rattle.std.specs.Float.Ieee.{div, of_int, to_bits, of_bits}
+use Rattle.std.specs.Float.Ieee.Bits.{is_false}
+use Rattle.std.proofs.Common.{refl, List, [], ◌∷◌, ◌+◌, ◌*◌, ◌/◌, ◌^◌, ap₂, mod-lt, lit<}
+use Rattle.words.proofs.ComputedLaws.{below_at}
 use Rattle.formats.specs.Lanes.{Channel, red, green, blue, alpha, luminance, depth, stencil, padding, Kind, unsigned, signed, float16, float32, ignored, Part, bits, packed}
 use Rattle.formats.specs.Table.{parts_of}
-use Rattle.channels.specs.Luminance.{luminance_byte}
-use Rattle.binary16.proofs.FaintLaws.{elsewhere}
-use Rattle.colours.specs.Color.{byte_of, unorm_of}
-use Rattle.colours.specs.LaneCodes.{lane_code}
+use Rattle.channels.proofs.LuminanceLaws.{luminance_byte}
+use Rattle.convert.specs.FaintNumbers.{faint}
+use Rattle.convert.specs.Color.{unorm_of, byte_of}
+use Rattle.convert.proofs.FaintNumbersLaws.{elsewhere}
+use Rattle.convert.specs.LaneCodes.{lane_code}
 use Rattle.convert.specs.Fill.{word_of}
-use Rattle.convert.specs.Unmoved.{channel_apart, original_lane}
+use Rattle.convert.specs.Unmoved.{original_lane}
+
+-- the pattern of channel/255 is none of the interval's: computed for each byte
+abbrev apart_test : ℕ → Bool
+apart_test v = not (faint (of_bits binary32 (to_bits binary32 (unorm_of v))))
+
+pub channel_apart : (v : ℕ) → v < 256 → faint (of_bits binary32 (to_bits binary32 (unorm_of v))) ≡ false
+unfolding div of_int to_bits of_bits
+channel_apart v h = is_false (faint (of_bits binary32 (to_bits binary32 (unorm_of v)))) (below_at apart_test 256 tt v h)
 
 lane_unmoved : (k : Kind) (n v : ℕ) → v < 256 → lane_code k n v ≡ original_lane k n v
 lane_unmoved unsigned n v h = refl

@@ -3,10 +3,12 @@ use Rattle.std.proofs.Common.{◌≡◌, refl, sym, ap, ap₂, ◌∙◌, Bool, 
 use native.Mathlib.Nat.{div-div-eq-div-mul, div-eq_of_lt}
 use Rattle.std.specs.Int.{byte_at, bytes_low_first}
 use Rattle.words.specs.Tests.{pick}
-use Rattle.words.specs.Little.{bytes, bytes_split}
+use Rattle.words.specs.Little.{bytes}
+use Rattle.words.proofs.LittleLaws.{bytes_split}
 use Rattle.formats.specs.Lanes.{bits}
 use Rattle.formats.specs.Classes.{listed}
-use Rattle.formats.specs.Table.{bytes_of, by_table}
+use Rattle.formats.specs.Table.{bytes_of}
+use Rattle.formats.proofs.TableLaws.{by_table}
 use Rattle.convert.specs.Fill.{fill_formats, filled, refused, word_of, fill_of}
 
 -- ---- a word's bytes, as the library's methods list them

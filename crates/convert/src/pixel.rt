@@ -1,16 +1,17 @@
-// What a fill hands back: a texel's bytes, or that there are none.
-ghost use Rattle.std.specs.Prelude.{◌≡◌, ◌≤◌};
+//! What a fill hands back: a texel's bytes, or that there are none.
+ghost use Rattle.std.specs.Prelude.{◌≡◌};
 
-// One texel's bytes: the first `len` of `bytes`, and zeros after them.
-// The length stands beside them since the C interface hands over both, and bytes of that length alone would need the heap.
+/// One texel's bytes: the first `length` of `bytes`, and zeros after them.
 #[derive(Clone, Copy)]
+#[repr(C)]
 pub struct FillPixel {
+    /// The texel, and zeros up to sixteen bytes.
     pub bytes: [u8; 16],
-    pub len: usize,
-    ghost fits: { len ≤ 16 },
+    /// How many of them the texel has.
+    pub length: u32,
 }
 
-// The format code has no fill.
+/// The format code has no fill: refusal 5.
 #[derive(Clone, Copy, Debug, PartialEq, Eq)]
 pub struct NoFill;
 

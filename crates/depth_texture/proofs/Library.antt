@@ -1,9 +1,11 @@
 -- What the library's methods and the code's tests give, in the words of specs/. Assumes nothing.
-use Rattle.std.proofs.Common.{◌≡◌, false, ◌&&◌, ℕ, suc, ◌+◌, ◌-◌, ◌*◌, ◌/◌, ◌%◌, ◌≤◌, ◌<◌, max, leb, ltb, sym, ap, ap₂, ◌∙◌, inl, inr, arith, suc-mul, mul-le-mul_right, div-add-mod', le-leb}
+use Rattle.std.proofs.Common.{◌≡◌, ◌↔◌, Bool, true, false, ◌&&◌, ℕ, suc, ◌+◌, ◌-◌, ◌*◌, ◌/◌, ◌%◌, ◌≤◌, ◌<◌, max, leb, ltb, sym, ap, ap₂, ◌∙◌, inl, inr, arith, suc-mul, mul-le-mul_right, div-add-mod', le-leb, leb-true}
 use Rattle.std.proofs.lemmas.Bool.{and_right, cases_lt}
+use Rattle.std.proofs.lemmas.Bool.Decides.{same_from_decides}
 use borrow.Author.Tests.{lt-leb}
-use Rattle.words.specs.Multiples.{raised, Raised, raised_is}
-use Rattle.words.specs.Tests.{leb_same}
+use Rattle.words.specs.Multiples.{raised, Raised}
+use Rattle.words.proofs.MultiplesLaws.{raised_is}
+use Rattle.words.proofs.TestsLaws.{leb_same}
 use Rattle.formats.specs.Table.{bytes_of}
 use Rattle.depth_texture.specs.declared.PlaneLayout.{PlaneLayout}
 use Rattle.depth_texture.specs.Layouts.{limit, planes_fit}
@@ -24,6 +26,10 @@ next_raised a {n = n} {u = u} {r = r} greater low high multiple =
       | inr h ↦ absurd (omega (arith, whole, high, R.enough, R.multiple.1, suc-mul k u, mul-le-mul_right {m = suc k} {n = q} u h))
     ] in
     same ∙ ap (raised n) unit
+
+-- what `fits` answers is the test of its two numbers
+pub fits_is : (t : Bool) (n m : ℕ) → (t ≡ true) ↔ (n ≤ m) → t ≡ leb n m
+fits_is t n m h = same_from_decides t (leb n m) h (leb-true n m, le-leb n m)
 
 -- below the limit is at most the largest number of 64 bits
 below_limit : (n : ℕ) → leb n 18446744073709551615 ≡ ltb n limit

@@ -9,20 +9,22 @@ use Rattle.std.proofs.Math.Seq.{length-take-le}
 use Rattle.std.specs.Float.Ieee.{binary32, of_bits, to_bits, of_int, fits}
 use Rattle.std.specs.Float.Ieee.Fits.{div-fits}
 use Rattle.std.specs.Float.Ieee.Bits.{of_bits-to_bits, to_bits-lt}
-use Rattle.words.specs.Little.{number, bytes, Small, small_take, small_drop, length_bytes, number_bytes, number_lt, bytes_number}
+use Rattle.words.specs.Little.{number, bytes}
+use Rattle.words.proofs.LittleLaws.{Small, small_take, small_drop, length_bytes, number_bytes, number_lt, bytes_number}
 use Rattle.words.specs.Tests.{pick}
 use Rattle.formats.specs.Table.{bytes_of}
-use Rattle.depth_pixels.specs.declared.PackedDepth.{PackedDepth}
+use Rattle.depth_texture.specs.declared.pixels.PackedDepth.{PackedDepth}
 use Rattle.depth_texture.specs.declared.PlaneLayout.{PlaneLayout}
-use Rattle.depth_pixels.specs.Depth.{depth_of, code_for, CodeFor}
-use Rattle.depth_pixels.specs.Restoration.{code_for_lem, restored}
-use Rattle.depth_pixels.specs.Pixels.{format_code, is_packed_depth, has_stencil, max_code, depth_code, stencil_code, decoded, pixel_word, encoded, KeepsAll}
-use Rattle.depth_pixels.specs.PackedFormats.{format_of, Sizes, sizes, depth_code_le, stencil_lt, depth_held, word_lt, no_stencil}
-use Rattle.depth_pixels.proofs.PackedFormatsLaws.{word_restored}
-use Rattle.depth_pixels.specs.Pictures.{place, pixel_in, written, written_own, written_other}
+use Rattle.depth_texture.specs.Depth.{depth_of, code_for, CodeFor}
+use Rattle.depth_texture.proofs.Restoration.{code_for_is, restored}
+use Rattle.depth_texture.specs.Pixels.{format_code, is_packed_depth, has_stencil, max_code, depth_code, stencil_code, decoded, pixel_word, encoded, KeepsAll}
+use Rattle.depth_texture.proofs.PackedFormats.{format_of, Sizes, sizes, depth_code_le, stencil_lt, depth_held, word_lt, no_stencil}
+use Rattle.depth_texture.proofs.PackedFormatsLaws.{word_restored}
+use Rattle.depth_texture.specs.Pictures.{place, pixel_in, written}
+use Rattle.depth_texture.proofs.PicturesLaws.{written_own, written_other}
 use Rattle.depth_texture.specs.Replies.{refusal_of, Accepts}
-use Rattle.depth_texture.specs.Refusals.{accepts, RowsWithin, rows_within}
-use Rattle.depth_pixels.specs.PixelBytes.{word_at, depth_at, depth_bytes, stencil_bytes, stencil_at, packed_bytes}
+use Rattle.depth_texture.proofs.Refusals.{accepts, RowsWithin, rows_within}
+use Rattle.depth_texture.specs.PixelBytes.{word_at, depth_at, depth_bytes, stencil_bytes, stencil_at, packed_bytes}
 use Rattle.depth_texture.specs.Planes.{depth_plane, stencil_plane, packed_pixels, unpacked_depth, unpacked_stencil, packed_buffer}
 use Rattle.depth_texture.specs.Promises.{Bytewise, Restores, SameElsewhere, PlanesKept}
 
@@ -91,8 +93,8 @@ first_byte : (l : List ℕ) (a b : ℕ) → take 1 (drop a l) ≡ bytes 1 b → 
 first_byte l a b e h =
     ap (λ n. get_or l n 0) (sym (add-zero a)) ∙ sym (get_or-drop a l 0 0) ∙ sym (get_or-take 1 (drop a l) 0 0 (lit< tt)) ∙ ap (λ m. get_or m 0 0) e ∙ mod-eq_of_lt h
 
--- ---- every pixel of an accepted unpacking
 module _ (f : ℕ) (l : PlaneLayout) (packed : List ℕ) (pitch : ℕ) (depth stencil : List ℕ) (ok : Accepts f l (length packed) pitch (length depth) (length stencil)) (x y : ℕ) (xl : x < l.width) (yl : y < l.height) where
+  -- ---- every pixel of an accepted unpacking
   abbrev word : ℕ
   word = word_at f packed (place pitch (bytes_of f) x y)
 
@@ -100,10 +102,10 @@ module _ (f : ℕ) (l : PlaneLayout) (packed : List ℕ) (pitch : ℕ) (depth st
   within = rows_within f l (length packed) pitch (length depth) (length stencil) ok y yl
 
   depth_room : l.width * 4 ≤ l.depth_pitch
-  depth_room = omega (arith, ok.sound.depth_row_lem)
+  depth_room = omega (arith, ok.sound.depth_row_fits)
 
   stencil_room : l.width * 1 ≤ l.stencil_pitch
-  stencil_room = omega (arith, ok.sound.stencil_row_lem)
+  stencil_room = omega (arith, ok.sound.stencil_row_fits)
 
   -- its depth
   pub depth_unpacked : depth_at (depth_plane f l packed pitch depth) (place l.depth_pitch 4 x y) ≡ depth_of (max_code f) (depth_code f word)
@@ -133,15 +135,15 @@ module _ (f : ℕ) (l : PlaneLayout) (packed : List ℕ) (pitch : ℕ) (depth st
       go true e = first_byte plane (place l.stencil_pitch 1 x y) (stencil_code f word) (stencil_own e) (known (λ f. stencil_code f word < 256) (λ d. stencil_lt d word) f ok.known)
       go false e = sym (known (λ f. has_stencil f ≡ false → stencil_code f word ≡ 0) (λ d h. no_stencil d h word) f ok.known e)
 
--- ---- every pixel of an accepted packing
 module _ (f : ℕ) (l : PlaneLayout) (depth stencil packed : List ℕ) (pitch : ℕ) (ok : Accepts f l (length packed) pitch (length depth) (length stencil)) (x y : ℕ) (xl : x < l.width) (yl : y < l.height) where
+  -- ---- every pixel of an accepted packing
   pub pixel_packed : pixel_in pitch (bytes_of f) x y (packed_pixels f l depth stencil pitch packed)
       ≡ packed_bytes f depth stencil (place l.depth_pitch 4 x y) (place l.stencil_pitch 1 x y)
   unfolding packed_pixels
   pixel_packed =
       written_own pitch (bytes_of f) l.width l.height (λ x y. packed_bytes f depth stencil (place l.depth_pitch 4 x y) (place l.stencil_pitch 1 x y))
       (λ x y. packed_sized f depth stencil (place l.depth_pitch 4 x y) (place l.stencil_pitch 1 x y))
-      ok.packed_row_lem x y xl yl (length packed) ((rows_within f l (length packed) pitch (length depth) (length stencil) ok y yl).in_packed x xl) packed refl
+      ok.packed_row_fits x y xl yl (length packed) ((rows_within f l (length packed) pitch (length depth) (length stencil) ok y yl).in_packed x xl) packed refl
 
   -- THE CODE IS THE NEAREST
   pub nearest_packed : stencil_at f stencil (place l.stencil_pitch 1 x y) < 256
@@ -151,16 +153,16 @@ module _ (f : ℕ) (l : PlaneLayout) (depth stencil packed : List ℕ) (pitch : 
       let z = depth_at depth (place l.depth_pitch 4 x y) in
       let s = stencil_at f stencil (place l.stencil_pitch 1 x y) in
       let c = code_for (max_code f) z in
-      let le : c ≤ max_code f = (code_for_lem (max_code f) z).is_code in
+      let le : c ≤ max_code f = (code_for_is (max_code f) z).is_code in
       subst (CodeFor (max_code f) z)
       (sym
       (ap (λ b. depth_code f (number b)) pixel_packed
       ∙ ap (depth_code f) (number_bytes (bytes_of f) (pixel_word f c s) (known (λ f. c ≤ max_code f → pixel_word f c s < 2 ^ (bytes_of f * 8)) (λ d h. word_lt d c s h small) f ok.known le))
       ∙ known (λ f. c ≤ max_code f → depth_code f (pixel_word f c s) ≡ c) (λ d h. depth_held d c s h small) f ok.known le))
-      (code_for_lem (max_code f) z)
+      (code_for_is (max_code f) z)
 
--- ---- THE ROUND TRIP
 module _ (f : ℕ) (l : PlaneLayout) (packed : List ℕ) (pitch : ℕ) (depth stencil : List ℕ) (ok : Accepts f l (length packed) pitch (length depth) (length stencil)) (all : KeepsAll f) (small : Small packed) where
+  -- ---- THE ROUND TRIP
   word_back : (x y : ℕ) → x < l.width → y < l.height
       → packed_bytes f (depth_plane f l packed pitch depth) (stencil_plane f l packed pitch stencil) (place l.depth_pitch 4 x y) (place l.stencil_pitch 1 x y) ≡ pixel_in pitch (bytes_of f) x y packed
   unfolding packed_bytes encoded word_at
@@ -187,8 +189,8 @@ module _ (f : ℕ) (l : PlaneLayout) (packed : List ℕ) (pitch : ℕ) (depth st
       ∙ pixel_packed f l D S out pitch₂ (accepts f l (length out) pitch₂ (length D) (length S) e) x y xl yl
       ∙ word_back x y xl yl
 
--- ---- what is kept
 module _ (f : ℕ) (l : PlaneLayout) (packed : List ℕ) (pitch : ℕ) (depth stencil : List ℕ) where
+  -- ---- what is kept
   pub planes_kept : PlanesKept f l depth (depth_plane f l packed pitch depth) stencil (stencil_plane f l packed pitch stencil)
   unfolding depth_plane stencil_plane
   planes_kept = record {

@@ -1,6 +1,6 @@
 -- Plane layouts: how `PlaneLayout::new` makes one, what it refuses, and what holds of one that stands.
 -- Assumes nothing.
-use Rattle.std.specs.Prelude.{◌≡◌, Result, Ok, Err, Bool, not, ◌&&◌, ◌||◌, ℕ, ◌*◌, ◌^◌, ◌≤◌, ◌<◌, max, leb, ltb, eqb}
+use Rattle.std.specs.Prelude.{Result, Ok, Err, Bool, not, ◌&&◌, ◌||◌, ℕ, ◌*◌, ◌^◌, ◌≤◌, ◌<◌, max, leb, ltb, eqb}
 use Rattle.words.specs.Tests.{pick}
 use Rattle.words.specs.Iterate.{all}
 use Rattle.words.specs.Multiples.{raised, Raised}
@@ -11,10 +11,6 @@ use Rattle.depth_texture.specs.declared.PlaneLayoutRefusal.TheVariants.{ZeroSize
 -- one more than the largest number of 64 bits
 abbrev pub limit : ℕ
 limit = 18446744073709551616
-
--- a is a power of two
-abbrev pub PowerOfTwo : ℕ → Type 0
-PowerOfTwo a = (k : ℕ) × (a ≡ 2 ^ k)
 
 -- the same as a test of each k below a (Powers joins the two)
 unfoldable pub is_power_of_two : ℕ → Bool
@@ -36,7 +32,7 @@ is_empty l = eqb l.width 0 || eqb l.height 0
 unfoldable pub planes_fit : PlaneLayout → Bool
 planes_fit l = ltb (l.depth_pitch * l.height) limit && ltb (l.stencil_pitch * l.height) limit
 
--- document 01's number for each refusal
+-- the number of each refusal
 abbrev pub layout_refusal_number : PlaneLayoutRefusal → ℕ
 layout_refusal_number ZeroSize = 6
 layout_refusal_number NoPowerOfTwo = 7
@@ -47,7 +43,7 @@ abbrev pub answer_number : Result PlaneLayout PlaneLayoutRefusal → ℕ
 answer_number (Ok l) = 0
 answer_number (Err r) = layout_refusal_number r
 
--- document 01's number for a layout that cannot be made, the lowest that applies, and 0 where it can
+-- the number for a layout that cannot be made, the lowest that applies, and 0 where it can
 unfoldable pub layout_refusal : (width height alignment : ℕ) → ℕ
 layout_refusal w h a =
     pick (is_empty (aligned w h a)) (layout_refusal_number ZeroSize)
@@ -67,8 +63,8 @@ answer_layout (Err r) = layout 0 0 0 0
 pub record Stands (l : PlaneLayout) : Type 0 where
   pub wide : 0 < l.width
   pub high : 0 < l.height
-  pub depth_row_lem : 4 * l.width ≤ l.depth_pitch
-  pub stencil_row_lem : l.width ≤ l.stencil_pitch
+  pub depth_row_fits : 4 * l.width ≤ l.depth_pitch
+  pub stencil_row_fits : l.width ≤ l.stencil_pitch
   pub depth_fits : l.depth_pitch * l.height < limit
   pub stencil_fits : l.stencil_pitch * l.height < limit
 

@@ -1,7 +1,11 @@
--- Definitions that the contracts cite, and laws of them that other crates cite.
+-- What the contracts cite.
 pub mod Layouts
 pub mod Replies
 pub mod Planes
 pub mod Promises
-pub mod Powers
-pub mod Refusals
+pub mod Depth
+pub mod Pixels
+pub mod Pictures
+pub mod PixelBytes
+pub mod Rows
+pub mod PictureRows

@@ -4,13 +4,13 @@ use Rattle.std.specs.Prelude.{List, ℕ, length, eqb}
 use Rattle.words.specs.Tests.{pick}
 use Rattle.formats.specs.Table.{bytes_of}
 use Rattle.depth_texture.specs.declared.PlaneLayout.{PlaneLayout}
-use Rattle.depth_pixels.specs.Pixels.{has_stencil}
-use Rattle.depth_pixels.specs.Pictures.{place, written}
-use Rattle.depth_pixels.specs.PixelBytes.{depth_bytes, stencil_bytes, packed_bytes}
+use Rattle.depth_texture.specs.Pixels.{has_stencil}
+use Rattle.depth_texture.specs.Pictures.{place, written}
+use Rattle.depth_texture.specs.PixelBytes.{depth_bytes, stencil_bytes, packed_bytes}
 use Rattle.depth_texture.specs.Replies.{refusal_of}
 
--- ---- every pixel
 module _ (f : ℕ) (l : PlaneLayout) (packed : List ℕ) (pitch : ℕ) where
+  -- ---- every pixel
   -- the depth plane with each pixel's depth at its place
   unfoldable pub depth_plane : List ℕ → List ℕ
   depth_plane = written l.depth_pitch 4 l.width l.height (λ x y. depth_bytes f packed (place pitch (bytes_of f) x y))

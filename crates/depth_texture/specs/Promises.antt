@@ -5,11 +5,11 @@ use Rattle.words.specs.Little.{number}
 use Rattle.words.specs.Tests.{pick}
 use Rattle.formats.specs.Table.{bytes_of}
 use Rattle.depth_texture.specs.declared.PlaneLayout.{PlaneLayout}
-use Rattle.depth_pixels.specs.Depth.{CodeFor}
-use Rattle.depth_pixels.specs.Pixels.{has_stencil, max_code, depth_code}
-use Rattle.depth_pixels.specs.Pictures.{place, pixel_in, NoPixel}
+use Rattle.depth_texture.specs.Depth.{CodeFor}
+use Rattle.depth_texture.specs.Pixels.{has_stencil, max_code, depth_code}
+use Rattle.depth_texture.specs.Pictures.{place, pixel_in, NoPixel}
 use Rattle.depth_texture.specs.Replies.{refusal_of}
-use Rattle.depth_pixels.specs.PixelBytes.{depth_at}
+use Rattle.depth_texture.specs.PixelBytes.{depth_at}
 use Rattle.depth_texture.specs.Planes.{packed_buffer}
 
 -- a list of bytes
@@ -25,7 +25,7 @@ abbrev pub SamePixels : (f : ℕ) → PlaneLayout → (first : List ℕ) (pitch 
 SamePixels f l first pitch second pitch₂ =
     (x y : ℕ) → x < l.width → y < l.height → pixel_in pitch₂ (bytes_of f) x y second ≡ pixel_in pitch (bytes_of f) x y first
 
--- RESTORING (document 01): whatever buffer and pitch packing these planes accepts, it puts back every pixel
+-- restoring: whatever buffer and pitch packing these planes accepts, it puts back every pixel
 abbrev pub Restores : (f : ℕ) → PlaneLayout → (packed : List ℕ) (pitch : ℕ) (depth stencil : List ℕ) → Type 0
 Restores f l packed pitch depth stencil =
     (out : List ℕ) (pitch₂ : ℕ) → refusal_of f l (length out) pitch₂ (length depth) (length stencil) ≡ 0
@@ -41,7 +41,7 @@ pub record PlanesKept (f : ℕ) (l : PlaneLayout) (depth₀ depth stencil₀ ste
   pub stencil_padding : SameElsewhere l.stencil_pitch 1 l.width l.height stencil₀ stencil
   pub no_stencil : has_stencil f ≡ false → stencil ≡ stencil₀
 
--- DEMAND 3 for depths: the code in every packed pixel's depth lane is the nearest one, a tie going to the even one, to the binary32 number of the depth plane, clamped to 0..1, a NaN as 0
+-- the code in every packed pixel's depth lane is the nearest one, a tie going to the even one, to the binary32 number of the depth plane, clamped to 0..1, a NaN as 0
 abbrev pub NearestCodes : (f : ℕ) → PlaneLayout → (depth packed : List ℕ) (pitch : ℕ) → Type 0
 NearestCodes f l depth packed pitch =
     (x y : ℕ) → x < l.width → y < l.height

@@ -6,11 +6,11 @@ use Rattle.formats.specs.Table.{bytes_of}
 use Rattle.depth_texture.specs.declared.PlaneLayout.{PlaneLayout}
 use Rattle.depth_texture.specs.declared.DepthRefusal.{DepthRefusal}
 use Rattle.depth_texture.specs.declared.DepthRefusal.TheVariants.{NotPackedDepth, BadLayout, ShortPacked, ShortDepth, ShortStencil}
-use Rattle.depth_pixels.specs.declared.PackedDepth.{PackedDepth}
-use Rattle.depth_pixels.specs.Pixels.{format_code, is_packed_depth, has_stencil}
+use Rattle.depth_texture.specs.declared.pixels.PackedDepth.{PackedDepth}
+use Rattle.depth_texture.specs.Pixels.{format_code, is_packed_depth, has_stencil}
 use Rattle.depth_texture.specs.Layouts.{stands, Stands}
 
--- document 01's number for each refusal
+-- the number of each refusal
 abbrev pub refusal_number : DepthRefusal → ℕ
 refusal_number NotPackedDepth = 9
 refusal_number BadLayout = 10
@@ -39,7 +39,7 @@ plane_holds pitch height len = leb (pitch * height) len
 unfoldable pub stencil_holds : ℕ → PlaneLayout → ℕ → Bool
 stencil_holds f l len = pick (has_stencil f) (plane_holds l.stencil_pitch l.height len) true
 
--- document 01's number for a call that is refused, the lowest that applies, and 0 for one that is accepted; the lengths are those of the packed buffer, the depth plane and the stencil plane
+-- the number for a call that is refused, the lowest that applies, and 0 for one that is accepted; the lengths are those of the packed buffer, the depth plane and the stencil plane
 unfoldable pub refusal_of : ℕ → PlaneLayout → (packed pitch depth stencil : ℕ) → ℕ
 refusal_of f l packed pitch depth stencil =
     pick (not (is_packed_depth f)) (refusal_number NotPackedDepth)
@@ -52,7 +52,7 @@ refusal_of f l packed pitch depth stencil =
 pub record Accepts (f : ℕ) (l : PlaneLayout) (packed pitch depth stencil : ℕ) : Type 0 where
   pub known : is_packed_depth f ≡ true
   pub sound : Stands l
-  pub packed_row_lem : row_bytes f l ≤ pitch
+  pub packed_row_fits : row_bytes f l ≤ pitch
   pub packed_all : (l.height - 1) * pitch + row_bytes f l ≤ packed
   pub depth_all : l.depth_pitch * l.height ≤ depth
   pub stencil_all : has_stencil f ≡ true → l.stencil_pitch * l.height ≤ stencil

@@ -1,37 +1,50 @@
-// The planes of binary32 depths and of stencil bytes that pictures of packed depth pixels are unpacked into and packed from: their
-// layouts, and the reply to unpacking and packing, which is decided before any byte is written. Refused are a plane layout with a zero
-// size, an alignment that is no power of two, planes over 64 bits, a code of no packed depth format, pitches below a row, and buffers
-// that are too short. specs/ has the layouts (Layouts), the refusals (Replies), what the two calls write (Planes) and what they promise
-// (Promises); the calls are in `depth_pictures`, the pixels in `depth_pixels`.
-// Ported from depth_texture.rs of athei/mtld3d (an altered version, see NOTICE).
+//! The planes of binary32 depths and of stencil bytes that pictures of packed depth pixels are
+//! unpacked into and packed from: their layouts, and the reply to unpacking and packing, which is
+//! decided before any byte is written. The calls are in `pictures`, the pixels in `pixels`. specs/
+//! has the layouts (Layouts), the refusals (Replies), what the two calls write (Planes) and what
+//! they promise (Promises).
+//! Ported from depth_texture.rs of athei/mtld3d (an altered version, see NOTICE).
 #![tactic(auto)]
 
-ghost use Rattle.std.specs.Prelude.{◌≡◌, ◌*◌, leb};
-ghost use Rattle.depth_pixels.specs.Pixels.{format_code};
+ghost use Rattle.std.specs.Prelude.{◌≡◌, ◌*◌, ◌≤◌, ◌↔◌, IsTrue};
+ghost use Rattle.depth_texture.specs.Pixels.{format_code};
 ghost use Rattle.depth_texture.specs.Layouts.{planes_fit, layout_refusal_number, answer_number, answer_layout, layout_refusal, layout_for, Stands, stands, Pitches};
 ghost use Rattle.depth_texture.specs.Replies.{refusal_number, refusal_of, Checked, packed_holds, stencil_holds};
 
-use depth_pixels::PackedDepth;
+mod pictures;
+mod pixels;
+mod rows;
 
-// Aligned rows of a depth plane and a stencil plane.
+pub use pictures::{pack, unpack};
+pub use pixels::PackedDepth;
+
+/// Aligned rows of a depth plane and a stencil plane.
 #[derive(Clone, Copy)]
+#[repr(C)]
 pub struct PlaneLayout {
+    /// Pixels of a row.
     pub width: usize,
+    /// Rows.
     pub height: usize,
+    /// Bytes from a row of the depth plane to the next.
     pub depth_pitch: usize,
+    /// Bytes from a row of the stencil plane to the next.
     pub stencil_pitch: usize,
 }
 
-// Why there is no layout: refusals 6, 7 and 8 of document 01.
+/// Why there is no layout: refusals 6, 7 and 8.
 #[derive(Clone, Copy, Debug, PartialEq, Eq)]
 pub enum PlaneLayoutRefusal {
+    /// Width or height is 0: 6.
     ZeroSize,
+    /// The alignment, raised to at least 4, is no power of two: 7.
     NoPowerOfTwo,
+    /// The pitch of a plane times the height is 2^64 or more: 8.
     Over64Bits,
 }
 
 impl From<PlaneLayoutRefusal> for u32 {
-    // Document 01's number of the refusal.
+    // The number of the refusal.
     ghost from_gives = { λ refusal n. n ≡ layout_refusal_number refusal };
 
     fn from(refusal: PlaneLayoutRefusal) -> u32 {
@@ -43,18 +56,23 @@ impl From<PlaneLayoutRefusal> for u32 {
     }
 }
 
-// Why unpacking and packing are refused: refusals 9 to 13 of document 01.
+/// Why unpacking and packing are refused: refusals 9 to 13.
 #[derive(Clone, Copy, Debug, PartialEq, Eq)]
 pub enum DepthRefusal {
+    /// The format is no packed depth format: 9.
     NotPackedDepth,
+    /// The layout has no pixel, a pitch below a row, or a plane over 64 bits: 10.
     BadLayout,
+    /// The packed pitch is below a row, or the packed buffer is too short: 11.
     ShortPacked,
+    /// The depth plane is too short: 12.
     ShortDepth,
+    /// The format has a stencil, and the stencil plane is too short: 13.
     ShortStencil,
 }
 
 impl From<DepthRefusal> for u32 {
-    // Document 01's number of the refusal.
+    // The number of the refusal.
     ghost from_gives = { λ refusal n. n ≡ refusal_number refusal };
 
     fn from(refusal: DepthRefusal) -> u32 {
@@ -68,20 +86,23 @@ impl From<DepthRefusal> for u32 {
     }
 }
 
-// Whether a * b is at most room, where a * b may have more than 64 bits.
+// Whether a * b is at most `room`, where a * b may have more than 64 bits.
 fn fits(a: usize, b: usize, room: usize) -> bool
-    ensures { result ≡ leb (a * b) room }
+    ensures { IsTrue result ↔ (a * b ≤ room) }
 {
     a.checked_mul(b).is_some_and(|n| n <= room)
 }
 
 impl PlaneLayout {
-    // The layout for a size and an alignment; an alignment below 4 becomes 4.
+    /// The layout for a size in pixels and an alignment of the pitches in bytes, which is raised to
+    /// at least 4. Refused are a size of 0, an alignment that is no power of two, and planes over
+    /// 64 bits.
     pub fn new(width: u32, height: u32, alignment: u32) -> Result<PlaneLayout, PlaneLayoutRefusal>
         ensures reply { answer_number result ≡ layout_refusal width height alignment }
         ensures layout { answer_layout result ≡ layout_for width height alignment }
         ensures stands { answer_number result ≡ 0 → Stands (answer_layout result) }
-        ensures pitches { answer_number result ≡ 0 → Pitches width alignment (answer_layout result) }
+        ensures pitches { answer_number result ≡ 0
+            → Pitches width alignment (answer_layout result) }
     {
         if width == 0 || height == 0 {
             return Err(PlaneLayoutRefusal::ZeroSize);
@@ -112,8 +133,8 @@ impl PlaneLayout {
             && fits(self.stencil_pitch, self.height, usize::MAX)
     }
 
-    // Whether the layout stands: it has a pixel, its pitches hold their rows, and its planes fit 64 bits.
-    #[tactic(auto, using(crate::specs::Refusals::rows_stand, crate::specs::Refusals::not_standing))]
+    // Whether the layout has a pixel, its pitches hold their rows, and its planes fit 64 bits.
+    #[tactic(auto, using(crate::proofs::Refusals::rows_stand, crate::proofs::Refusals::not_standing))]
     fn is_sound(self) -> bool
         ensures { result ≡ stands self }
     {
@@ -125,7 +146,7 @@ impl PlaneLayout {
     }
 
     // Whether the packed pitch holds a row, and `len` bytes every row.
-    #[tactic(auto, using(depth_pixels::specs::PackedFormats::sizes, crate::proofs::Library::short_pitch, crate::proofs::Library::short_row, crate::proofs::Library::other_rows))]
+    #[tactic(auto, using(crate::proofs::PackedFormats::sizes, crate::proofs::Library::short_pitch, crate::proofs::Library::short_row))]
     fn packed_holds(self, kind: PackedDepth, len: usize, pitch: usize) -> bool
         requires { Stands self }
         ensures { result ≡ packed_holds (format_code kind) self len pitch }
@@ -142,9 +163,8 @@ impl PlaneLayout {
         !kind.has_stencil() || fits(self.stencil_pitch, self.height, len)
     }
 
-    // The tests of the layout and of the buffers' lengths, for a packed depth format. The lengths stay numbers: `check` alone has them
-    // together, and a struct would be made at its two calls and taken apart in each test here.
-    #[tactic(auto, using(depth_pixels::specs::PackedFormats::packed_known, crate::specs::Refusals::refused_10, crate::specs::Refusals::refused_11, crate::specs::Refusals::refused_12, crate::specs::Refusals::refused_13, crate::specs::Refusals::not_refused))]
+    // The checks of the layout and of the buffers' lengths, in bytes, for a packed depth format.
+    #[tactic(auto, using(crate::proofs::PackedFormats::packed_known, crate::proofs::Refusals::refused_10, crate::proofs::Refusals::refused_11, crate::proofs::Refusals::refused_12, crate::proofs::Refusals::refused_13, crate::proofs::Refusals::not_refused))]
     fn check_buffers(
         self,
         kind: PackedDepth,
@@ -153,7 +173,8 @@ impl PlaneLayout {
         depth: usize,
         stencil: usize,
     ) -> Result<PackedDepth, DepthRefusal>
-        ensures { Checked (format_code kind) (refusal_of (format_code kind) self packed packed_pitch depth stencil) result }
+        ensures { Checked (format_code kind) (refusal_of (format_code kind) self packed packed_pitch
+            depth stencil) result }
     {
         if !self.is_sound() {
             return Err(DepthRefusal::BadLayout);
@@ -170,9 +191,9 @@ impl PlaneLayout {
         Ok(kind)
     }
 
-    // The format is a number here, as the C interface hands it over: any number has its answer, so that a type would ask more of callers.
-    // The tests before unpacking and packing, from the lengths of the packed buffer and the two planes.
-    #[tactic(auto, using(crate::specs::Refusals::refused_9))]
+    /// The checks before unpacking and packing, from the lengths of the packed buffer and of the
+    /// two planes, in bytes. The format is a code, and any number has its answer.
+    #[tactic(auto, using(crate::proofs::Refusals::refused_9))]
     pub fn check(
         self,
         format: u32,

@@ -3,8 +3,9 @@
 use Rattle.std.proofs.Common.{◌≡◌, true, false, ◌||◌, ◌∷◌, ℕ, ap, ◌∙◌, ne_eqb}
 use Rattle.formats.specs.Codes.{A32B32G32R32F}
 use Rattle.formats.specs.Classes.{listed, code_sources, is_convertible_rgb, is_planar_yuv, is_yuv, is_code_source, is_argb_source, is_lane_source}
-use Rattle.formats.specs.Formats.{lane_source_code, packed_yuv_code, planar_yuv_code, yuv_code, lane_source_is, packed_yuv_is, planar_yuv_is}
-use Rattle.formats.specs.Listed.{lane_only, planar_not_packed}
+use Rattle.formats.specs.Formats.{lane_source_code, packed_yuv_code, planar_yuv_code, yuv_code}
+use Rattle.formats.proofs.FormatsLaws.{lane_source_is, packed_yuv_is, planar_yuv_is}
+use Rattle.formats.proofs.Listed.{lane_only, planar_not_packed}
 use Rattle.formats.specs.declared.LaneSource.{LaneSource}
 use Rattle.formats.specs.declared.YuvFormat.{YuvFormat}
 use Rattle.formats.specs.declared.YuvFormat.TheVariants.{Packed, Planar}

@@ -1,15 +1,17 @@
 -- The lanes as numbers, to be read beside Microsoft's page: for each format its bytes, then each lane with its lowest bit and its width.
 -- Assumes nothing.
-use Rattle.std.specs.Prelude.{◌≡◌, refl, List, [], ◌∷◌, ℕ, ◌/◌}
+use Rattle.std.specs.Prelude.{List, [], ◌∷◌, ℕ, ◌/◌}
 use Rattle.formats.specs.Lanes.{Channel, red, green, blue, alpha, luminance, depth, stencil, padding, Kind, unsigned, signed, float16, float32, ignored, Lane, nowhere, at, find, bits}
-use Rattle.formats.specs.Table.{Format, formats}
+use Rattle.formats.specs.Table.{Format}
 
+-- a channel with its lowest bit, its width and its kind
 pub record Placed : Type 0 where
   pub channel : Channel
   pub low : ℕ
   pub width : ℕ
   pub kind : Kind
 
+-- one lane more, where it is there
 abbrev put : Channel → Lane → List Placed → List Placed
 put c nowhere ps = ps
 put c (at low n k) ps = record { channel = c; low = low; width = n; kind = k } ∷ ps
@@ -21,6 +23,7 @@ placed f =
     put red (find red ps) (put green (find green ps) (put blue (find blue ps) (put alpha (find alpha ps)
     (put luminance (find luminance ps) (put depth (find depth ps) (put stencil (find stencil ps) (put padding (find padding ps) [])))))))
 
+-- a format's code, the bytes of a texel and its lanes
 pub record Row : Type 0 where
   pub code : ℕ
   pub bytes : ℕ
@@ -29,7 +32,7 @@ pub record Row : Type 0 where
 abbrev row_of : Format → Row
 row_of f = record { code = f.code; bytes = bits f.parts / 8; lanes = placed f }
 
-abbrev rows_of : List Format → List Row
+abbrev pub rows_of : List Format → List Row
 rows_of [] = []
 rows_of (f ∷ fs) = row_of f ∷ rows_of fs
 
@@ -64,8 +67,10 @@ x low n = record { channel = padding; low = low; width = n; kind = ignored }
 abbrev of_kind : Kind → Placed → Placed
 of_kind k p = record { channel = p.channel; low = p.low; width = p.width; kind = k }
 
-pub lanes_read : rows_of formats ≡
-    (row 20 3 (r 16 8 ∷ g 8 8 ∷ b 0 8 ∷ [])
+-- the table in numbers
+abbrev pub numbered : List Row
+numbered =
+    row 20 3 (r 16 8 ∷ g 8 8 ∷ b 0 8 ∷ [])
     ∷ row 21 4 (r 16 8 ∷ g 8 8 ∷ b 0 8 ∷ a 24 8 ∷ [])
     ∷ row 22 4 (r 16 8 ∷ g 8 8 ∷ b 0 8 ∷ x 24 8 ∷ [])
     ∷ row 23 2 (r 11 5 ∷ g 5 6 ∷ b 0 5 ∷ [])
@@ -95,5 +100,4 @@ pub lanes_read : rows_of formats ≡
     ∷ row 114 4 (of_kind float32 (r 0 32) ∷ [])
     ∷ row 115 8 (of_kind float32 (r 0 32) ∷ of_kind float32 (g 32 32) ∷ [])
     ∷ row 116 16 (of_kind float32 (r 0 32) ∷ of_kind float32 (g 32 32) ∷ of_kind float32 (b 64 32) ∷ of_kind float32 (a 96 32) ∷ [])
-    ∷ [])
-lanes_read = refl
+    ∷ []

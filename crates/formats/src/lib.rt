@@ -1,6 +1,7 @@
-// The formats of Direct3D 9 that this library knows: their codes, their classes and the bytes of a texel, from format.rs and
-// caps.rs of athei/mtld3d (an altered version, see NOTICE). specs/Codes has the codes, specs/Table the lane table: for each
-// format the lowest bit, the width and the kind of each channel, as D3DFORMAT's names list them.
+//! The formats of Direct3D 9 that this library knows: their codes, their classes, the bytes of a
+//! texel, and the formats as types. specs/Codes has the codes, specs/Table the lane table: the
+//! lowest bit, the width and the kind of each channel, as D3DFORMAT's names list them.
+//! Ported from format.rs and caps.rs of athei/mtld3d (an altered version, see NOTICE).
 #![tactic(auto)]
 
 ghost use Rattle.std.specs.Prelude.{◌≡◌, ◌≤◌};
@@ -11,6 +12,7 @@ ghost use Rattle.formats.specs.declared.LaneSource.TheVariants.{Rgb};
 ghost use Rattle.formats.specs.declared.SourceFormat.TheVariants.{Lanes};
 ghost use Rattle.formats.specs.Classes.{is_convertible_rgb, is_packed_yuv, is_planar_yuv, is_code_source, is_argb_source, is_lane_source, is_yuv, linear_row_pitch};
 
+// The codes of D3DFORMAT; those of YUV formats are the four characters of their names.
 pub const D3DFMT_R8G8B8: u32 = 20;
 
 pub const D3DFMT_A8R8G8B8: u32 = 21;
@@ -79,45 +81,45 @@ pub const D3DFMT_YV12: u32 = 0x32315659;
 
 pub const D3DFMT_NV12: u32 = 0x3231564e;
 
-// The largest width and height of a texture.
+/// The largest width and height of a texture, in texels.
 pub const MAX_TEXTURE_DIM: u32 = 16384;
 
-// ---- codes: the C interface hands them over as numbers, and any number has its answer. The classes are one call each, under a
-// definition of their own.
+// ---- classes of codes: any number has its answer
 
-// Whether the converter decodes and encodes a format: its channels are unsigned and at most eight bits wide.
-#[tactic(auto, using(crate::specs::Formats::rgb_is))]
+/// Whether the converter decodes and encodes the format: its channels are unsigned and at most
+/// eight bits wide.
+#[tactic(auto, using(crate::proofs::FormatsLaws::rgb_is))]
 pub fn is_convertible_rgb(d3d_format: u32) -> bool
     ensures { result ≡ is_convertible_rgb d3d_format }
 {
     RgbFormat::from_d3d(d3d_format).is_some()
 }
 
-// Whether a format is one of the two packed 4:2:2 YUV formats.
-#[tactic(auto, using(crate::specs::Formats::packed_yuv_is))]
+/// Whether the format is one of the two packed 4:2:2 YUV formats.
+#[tactic(auto, using(crate::proofs::FormatsLaws::packed_yuv_is))]
 pub fn is_packed_yuv(d3d_format: u32) -> bool
     ensures { result ≡ is_packed_yuv d3d_format }
 {
     PackedYuv::from_d3d(d3d_format).is_some()
 }
 
-// Whether a format is one of the two planar 4:2:0 YUV formats.
-#[tactic(auto, using(crate::specs::Formats::planar_yuv_is))]
+/// Whether the format is one of the two planar 4:2:0 YUV formats.
+#[tactic(auto, using(crate::proofs::FormatsLaws::planar_yuv_is))]
 pub fn is_planar_yuv(d3d_format: u32) -> bool
     ensures { result ≡ is_planar_yuv d3d_format }
 {
     PlanarYuv::from_d3d(d3d_format).is_some()
 }
 
-// Whether a format converts into A8R8G8B8 alone and its channels are whole numbers.
-#[tactic(auto, using(crate::specs::Formats::code_source_is))]
+/// Whether the format converts into A8R8G8B8 alone and its channels are whole numbers.
+#[tactic(auto, using(crate::proofs::FormatsLaws::code_source_is))]
 pub fn is_code_source(d3d_format: u32) -> bool
     ensures { result ≡ is_code_source d3d_format }
 {
     CodeSource::from_d3d(d3d_format).is_some()
 }
 
-// Whether a format converts into A8R8G8B8 alone.
+/// Whether the format converts into A8R8G8B8 alone.
 #[tactic(auto, using(crate::proofs::Classified::floats_argb, crate::proofs::Classified::codes_argb))]
 pub fn is_argb_source(d3d_format: u32) -> bool
     ensures { result ≡ is_argb_source d3d_format }
@@ -125,7 +127,7 @@ pub fn is_argb_source(d3d_format: u32) -> bool
     d3d_format == D3DFMT_A32B32G32R32F || is_code_source(d3d_format)
 }
 
-// The bytes of one texel for each code from 0 to that of A32B32G32R32F; 0 for a code that has no lanes.
+// The bytes of a texel for each code from 0 to that of A32B32G32R32F; 0 for a code without lanes.
 const TEXEL_BYTES: [u8; 117] = [
     0, 0, 0, 0, 0, 0, 0, 0, 0, 0, 0, 0, 0, 0, 0, 0, 0, 0, 0, 0, 3, 4, 4, 2, 2, 2, 2, 0, 1, 0, 0, 4,
     4, 4, 4, 4, 8, 0, 0, 0, 0, 0, 0, 0, 0, 0, 0, 0, 0, 0, 1, 2, 0, 0, 0, 0, 0, 0, 0, 0, 2, 0, 0, 4,
@@ -133,7 +135,7 @@ const TEXEL_BYTES: [u8; 117] = [
     0, 0, 0, 0, 0, 0, 0, 0, 0, 0, 0, 0, 0, 0, 8, 2, 4, 8, 4, 8, 16,
 ];
 
-// The bytes of one texel; 0 for a code that has no lanes, as `bytes_of` has it, which the exported contracts cite.
+/// The bytes of a texel; 0 for a code without lanes.
 #[tactic(auto, unfolding(crate::specs::Table::bytes_of, crate::specs::Table::parts_of))]
 pub fn bytes_per_texel(d3d_format: u32) -> usize
     ensures { result ≡ bytes_of d3d_format }
@@ -145,7 +147,8 @@ pub fn bytes_per_texel(d3d_format: u32) -> usize
     }
 }
 
-// The pitch of a row of texels of one byte, for a width of at most MAX_TEXTURE_DIM: the least multiple of 4 that holds it.
+/// The pitch of a row of `width` texels of one byte, in bytes: the least multiple of 4 that holds
+/// it.
 pub fn linear_row_pitch(width: u32) -> u32
     requires { width ≤ 16384 }
     ensures is { result ≡ linear_row_pitch width }
@@ -154,13 +157,10 @@ pub fn linear_row_pitch(width: u32) -> u32
     width.next_multiple_of(4)
 }
 
-// ---- formats as types, which all but the functions that answer the C interface take. Each `from_d3d` finds its type by the number that
-// the C interface hands over; a number of no format is no error here: the callers say `?` in a function of an Option, `is_some()`,
-// `if let` or `let .. else`, where a `TryFrom<u32>` would give a Result that each turns back, with an error for each type that none
-// of them reads. No trait has them either: each names its own codes, or asks the types that it holds. `is_planar` and `bytes_per_texel`
-// of a type that holds others match its own variants and ask the one that is held.
+// ---- formats as types: a code becomes one where it is decided on (docs/DECISIONS.md, Shape)
 
-// A format that the converter decodes and encodes: its channels are unsigned and at most eight bits wide.
+/// A format that the converter decodes and encodes: its channels are unsigned and at most eight
+/// bits wide.
 #[derive(Clone, Copy, PartialEq, Eq)]
 pub enum RgbFormat {
     R8G8B8,
@@ -178,7 +178,7 @@ pub enum RgbFormat {
 }
 
 impl RgbFormat {
-    // The format that has this code.
+    /// The format that has this code, if there is one.
     #[tactic(auto, unfolding(crate::specs::Classes::is_convertible_rgb))]
     pub fn from_d3d(d3d_format: u32) -> Option<RgbFormat>
         ensures { Found rgb_code is_convertible_rgb d3d_format result }
@@ -200,7 +200,7 @@ impl RgbFormat {
         }
     }
 
-    // The bytes of one texel.
+    /// The bytes of a texel.
     #[tactic(auto, unfolding(crate::specs::Table::bytes_of, crate::specs::Table::parts_of))]
     pub fn bytes_per_texel(self) -> usize
         ensures { result ≡ bytes_of (rgb_code self) }
@@ -222,7 +222,7 @@ impl RgbFormat {
     }
 }
 
-// A format that converts into A8R8G8B8 alone and whose channels are whole numbers.
+/// A format that converts into A8R8G8B8 alone and whose channels are whole numbers.
 #[derive(Clone, Copy, PartialEq, Eq)]
 pub enum CodeSource {
     A16B16G16R16,
@@ -235,7 +235,7 @@ pub enum CodeSource {
 }
 
 impl CodeSource {
-    // The format that has this code.
+    /// The format that has this code, if there is one.
     #[tactic(auto, unfolding(crate::specs::Classes::is_code_source))]
     pub fn from_d3d(d3d_format: u32) -> Option<CodeSource>
         ensures { Found code_source_code is_code_source d3d_format result }
@@ -252,7 +252,7 @@ impl CodeSource {
         }
     }
 
-    // The bytes of one texel.
+    /// The bytes of a texel.
     #[tactic(auto, unfolding(crate::specs::Table::bytes_of, crate::specs::Table::parts_of))]
     pub fn bytes_per_texel(self) -> usize
         ensures { result ≡ bytes_of (code_source_code self) }
@@ -269,17 +269,19 @@ impl CodeSource {
     }
 }
 
-// A format whose texels are words with lanes: an RGB format, or one that converts into A8R8G8B8 alone.
+/// A format whose texels are words with lanes.
 #[derive(Clone, Copy, PartialEq, Eq)]
 pub enum LaneSource {
+    /// An RGB format.
     Rgb(RgbFormat),
+    /// A format that converts into A8R8G8B8 alone, of whole numbers.
     Codes(CodeSource),
-    // A32B32G32R32F.
+    /// A32B32G32R32F.
     Floats,
 }
 
 impl LaneSource {
-    // The format that has this code.
+    /// The format that has this code, if there is one.
     #[tactic(auto, using(crate::proofs::Classified::no_lanes))]
     pub fn from_d3d(d3d_format: u32) -> Option<LaneSource>
         ensures { Found lane_source_code is_lane_source d3d_format result }
@@ -293,7 +295,7 @@ impl LaneSource {
         (d3d_format == D3DFMT_A32B32G32R32F).then_some(LaneSource::Floats)
     }
 
-    // The bytes of one texel.
+    /// The bytes of a texel.
     #[tactic(auto, unfolding(crate::specs::Table::bytes_of, crate::specs::Table::parts_of))]
     pub fn bytes_per_texel(self) -> usize
         ensures { result ≡ bytes_of (lane_source_code self) }
@@ -306,29 +308,35 @@ impl LaneSource {
     }
 }
 
-// One of the two packed 4:2:2 YUV formats.
+/// A packed 4:2:2 YUV format: a macropixel of four bytes has two texels.
 #[derive(Clone, Copy)]
 pub enum PackedYuv {
+    /// Y U Y V in a macropixel.
     YUY2,
+    /// U Y V Y in a macropixel.
     UYVY,
 }
 
-// One of the two planar 4:2:0 YUV formats.
+/// A planar 4:2:0 YUV format: four texels share their chroma.
 #[derive(Clone, Copy)]
 pub enum PlanarYuv {
+    /// Three planes: luma, V and U.
     YV12,
+    /// Two planes: luma, and U and V in pairs.
     NV12,
 }
 
-// A YUV format.
+/// A YUV format.
 #[derive(Clone, Copy)]
 pub enum YuvFormat {
+    /// Two texels to a macropixel.
     Packed(PackedYuv),
+    /// Planes of luma and chroma.
     Planar(PlanarYuv),
 }
 
 impl PackedYuv {
-    // The format that has this code.
+    /// The format that has this code, if there is one.
     #[tactic(auto, unfolding(crate::specs::Classes::is_packed_yuv))]
     pub fn from_d3d(d3d_format: u32) -> Option<PackedYuv>
         ensures { Found packed_yuv_code is_packed_yuv d3d_format result }
@@ -342,7 +350,7 @@ impl PackedYuv {
 }
 
 impl PlanarYuv {
-    // The format that has this code.
+    /// The format that has this code, if there is one.
     #[tactic(auto, unfolding(crate::specs::Classes::is_planar_yuv))]
     pub fn from_d3d(d3d_format: u32) -> Option<PlanarYuv>
         ensures { Found planar_yuv_code is_planar_yuv d3d_format result }
@@ -356,15 +364,15 @@ impl PlanarYuv {
 }
 
 impl YuvFormat {
-    // Whether it is a planar one.
-    #[tactic(auto, using(crate::specs::Formats::packed_yuv_not_planar, crate::specs::Formats::planar_yuv_is))]
+    /// Whether the format is planar.
+    #[tactic(auto, using(crate::proofs::FormatsLaws::packed_yuv_not_planar, crate::proofs::FormatsLaws::planar_yuv_is))]
     pub fn is_planar(self) -> bool
         ensures { result ≡ is_planar_yuv (yuv_code self) }
     {
         matches!(self, YuvFormat::Planar(_))
     }
 
-    // The format that has this code.
+    /// The format that has this code, if there is one.
     pub fn from_d3d(d3d_format: u32) -> Option<YuvFormat>
         ensures { Found yuv_code is_yuv d3d_format result }
     {
@@ -375,10 +383,12 @@ impl YuvFormat {
     }
 }
 
-// A format that a conversion takes as its source.
+/// A format that a conversion takes as its source.
 #[derive(Clone, Copy)]
 pub enum SourceFormat {
+    /// Texels are words with lanes.
     Lanes(LaneSource),
+    /// Texels are luma, U and V.
     Yuv(YuvFormat),
 }
 
@@ -391,7 +401,7 @@ impl From<RgbFormat> for SourceFormat {
 }
 
 impl SourceFormat {
-    // The format that has this code.
+    /// The format that has this code, if there is one.
     pub fn from_d3d(d3d_format: u32) -> Option<SourceFormat>
         ensures { Found source_code is_source d3d_format result }
     {
@@ -401,7 +411,7 @@ impl SourceFormat {
         YuvFormat::from_d3d(d3d_format).map(|format| SourceFormat::Yuv(format))
     }
 
-    // Whether it is a planar YUV format.
+    /// Whether the format is planar YUV.
     #[tactic(auto, using(crate::proofs::Classified::lanes_no_planar))]
     pub fn is_planar(self) -> bool
         ensures { result ≡ is_planar_yuv (source_code self) }

@@ -3,7 +3,7 @@ use Rattle.std.specs.Prelude.{IsOk}
 use Rattle.std.proofs.Common.{◌≡◌, true, false, ℕ, ◌+◌, ◌/◌, Result, leb, sym, ap, ◌∙◌, arith}
 use Rattle.formats.specs.Table.{bytes_of}
 use Rattle.formats.specs.Classes.{is_packed_yuv, is_planar_yuv}
-use Rattle.formats.specs.Listed.{lane_some, lane_only}
+use Rattle.formats.proofs.Listed.{lane_some, lane_only}
 use Rattle.formats.specs.declared.LaneSource.{LaneSource}
 use Rattle.formats.specs.declared.PackedYuv.{PackedYuv}
 use Rattle.formats.specs.declared.PlanarYuv.{PlanarYuv}
@@ -11,12 +11,13 @@ use Rattle.formats.specs.declared.YuvFormat.{YuvFormat}
 use Rattle.formats.specs.declared.YuvFormat.TheVariants.{Packed, Planar}
 use Rattle.formats.specs.declared.SourceFormat.{SourceFormat}
 use Rattle.formats.specs.declared.SourceFormat.TheVariants.{Lanes}
-use Rattle.formats.specs.Formats.{planar_yuv_code, yuv_code, lane_source_code, source_code, lane_source_is, packed_yuv_is, packed_yuv_not_planar, planar_yuv_is}
+use Rattle.formats.specs.Formats.{planar_yuv_code, yuv_code, lane_source_code, source_code}
+use Rattle.formats.proofs.FormatsLaws.{lane_source_is, packed_yuv_is, packed_yuv_not_planar, planar_yuv_is}
 use Rattle.planar_yuv.specs.declared.PlanarYuvLayout.{PlanarYuvLayout}
 use Rattle.planar_yuv.specs.declared.NoPlanarLayout.{NoPlanarLayout}
 use Rattle.planar_yuv.specs.Answers.{reply_of, from_pitch}
 use Rattle.places.specs.Places.{texel_start, planar_places, places_at, places_in}
-use Rattle.places.specs.Inside.{run_in, lane_places, packed_places_lem, planar_places_lem}
+use Rattle.places.proofs.InsideLaws.{run_in, lane_places, packed_places_lem, planar_places_lem}
 use Rattle.places.proofs.Laid.{laid_some}
 
 module _ (len pitch slice_pitch z y x : ℕ) where

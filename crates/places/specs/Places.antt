@@ -1,16 +1,12 @@
 -- Where a texel's bytes lie: one list of offsets for every kind of picture, from which insideness, decoding and exact values are taken.
 -- Assumes nothing.
-use Rattle.std.specs.Prelude.{Bool, true, false, ◌&&◌, ◌||◌, List, [], ◌∷◌, ℕ, zero, suc, ◌+◌, ◌*◌, ◌/◌, leb, ltb, get_or}
+use Rattle.std.specs.Prelude.{Bool, true, false, ◌&&◌, List, [], ◌∷◌, ℕ, zero, suc, ◌+◌, ◌*◌, ◌/◌, leb, ltb, get_or}
 use Rattle.words.specs.Tests.{pick}
 use Rattle.words.specs.Iterate.{all}
 use Rattle.formats.specs.Table.{bytes_of}
-use Rattle.formats.specs.Classes.{is_lane_source, is_packed_yuv, is_planar_yuv}
+use Rattle.formats.specs.Classes.{is_packed_yuv, is_planar_yuv}
 use Rattle.planar_yuv.specs.Rules.{allowed}
 use Rattle.planar_yuv.specs.Offsets.{contains, luma_offset_at, u_offset_at, v_offset_at}
-
--- a picture whose texels are found here: with lanes, packed YUV or planar YUV
-unfoldable pub is_picture : ℕ → Bool
-is_picture f = is_lane_source f || is_packed_yuv f || is_planar_yuv f
 
 -- the offsets that a texel needs, in order, or that its picture does not have it
 pub data Places : Type 0 where

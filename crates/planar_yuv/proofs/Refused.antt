@@ -4,7 +4,8 @@ use Rattle.std.specs.Int.{div_ceil}
 use Rattle.std.proofs.lemmas.Bool.{false≢true}
 use Rattle.formats.specs.Codes.{NV12, YV12}
 use Rattle.formats.specs.Classes.{is_planar_yuv}
-use Rattle.planar_yuv.specs.Answers.{Reply, refusal, from_pitch, given, not_given}
+use Rattle.planar_yuv.specs.Answers.{Reply, refusal, from_pitch}
+use Rattle.planar_yuv.proofs.AnswersLaws.{given, not_given}
 
 pub no_pitch : (f pitch rows : ℕ) → pitch ≡ 0 → refusal ≡ from_pitch f pitch rows
 no_pitch f pitch rows h = sym (not_given (λ a. omega (arith, a.pitch_some)))

@@ -1,4 +1,4 @@
--- What the contracts cite, and laws that other crates cite.
+-- What the contracts cite.
 pub mod Rules
 pub mod Offsets
 pub mod Apart

@@ -1,8 +1,6 @@
 -- Where the samples of texel (x, y) stand in a planar frame: offsets from its first byte. Divisions round down.
 -- Assumes nothing.
-use Rattle.std.specs.Prelude.{◌≡◌, refl, Bool, true, ◌&&◌, ℕ, ◌+◌, ◌*◌, ◌/◌, ◌<◌, ltb, eqb}
-use Rattle.std.proofs.Common.{ltb-true, lt-ltb}
-use Rattle.std.proofs.lemmas.Bool.{and_parts}
+use Rattle.std.specs.Prelude.{Bool, ◌&&◌, ℕ, ◌+◌, ◌*◌, ◌/◌, ◌<◌, ltb, eqb}
 use Rattle.words.specs.Tests.{pick}
 use Rattle.formats.specs.Codes.{YV12}
 use Rattle.planar_yuv.specs.Rules.{chroma_rows_of}
@@ -14,12 +12,6 @@ contains pitch rows x y = ltb x pitch && ltb y rows
 -- (x, y) is a texel of the luma plane
 abbrev pub Inside : (pitch rows x y : ℕ) → Type 0
 Inside pitch rows x y = (x < pitch) × (y < rows)
-
-pub contains_is : (pitch rows x y : ℕ) → contains pitch rows x y ≡ true → Inside pitch rows x y
-contains_is pitch rows x y h = (ltb-true x pitch (and_parts (ltb x pitch) (ltb y rows) h).0, ltb-true y rows (and_parts (ltb x pitch) (ltb y rows) h).1)
-
-pub contains_yes : (pitch rows x y : ℕ) → Inside pitch rows x y → contains pitch rows x y ≡ true
-contains_yes pitch rows x y i = rw (lt-ltb x pitch i.0, lt-ltb y rows i.1) refl
 
 -- the first byte after the luma rows
 abbrev pub chroma_base_of : (pitch rows : ℕ) → ℕ

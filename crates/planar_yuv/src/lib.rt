@@ -1,7 +1,9 @@
-// The byte layout of the planar 4:2:0 YUV formats YV12 and NV12, from planar_yuv.rs of athei/mtld3d (an altered version, see
-// NOTICE). A frame is one allocation: luma rows of pitch bytes, then the chroma at half the resolution both ways. YV12 has a
-// plane of V and then one of U, in rows of half the pitch; NV12 has one plane of U and V in pairs. Refused (14) is any other
-// format, a pitch or luma rows outside 1 to 16384, an odd pitch, odd luma rows of YV12, and more than 16384 rows in all.
+//! The byte layout of the planar 4:2:0 YUV formats YV12 and NV12. A frame is one allocation: luma
+//! rows of pitch bytes, then the chroma at half the resolution both ways. YV12 has a plane of V and
+//! then one of U, in rows of half the pitch; NV12 has one plane of U and V in pairs. Refused (14)
+//! is any other format, a pitch or luma rows outside 1 to 16384, an odd pitch, odd luma rows of
+//! YV12, and more than 16384 rows in all.
+//! Ported from planar_yuv.rs of athei/mtld3d (an altered version, see NOTICE).
 #![tactic(auto)]
 
 ghost use Rattle.std.specs.Prelude.{◌≡◌, ◌+◌};
@@ -16,19 +18,21 @@ mod texel;
 
 pub use texel::PlanarTexel;
 
-// Where the planes of a frame stand. That it is legal (`Legal`) is asked of the caller and no ghost field: the definitions have a layout of
-// zeros for what is refused (`layout_of`), which is not legal. Three functions ask it, and a type that wraps a layout is no plainer: of the
-// three `storage_rows` is a method of any layout, and the others (`places::layout_has`, `yuv_texels::fetch_planar`) make a `PlanarTexel` of
-// theirs, which has the fact; the type would be made of each layout that is found, for its one use, and be taken apart there.
+/// Where the planes of a frame stand; all zeros where there is no layout.
 #[derive(Clone, Copy)]
+#[repr(C)]
 pub struct PlanarYuvLayout {
-    pub pitch: u32,
-    pub luma_rows: u32,
-    pub chroma_rows: u32,
+    /// Bytes from a luma row to the next.
+    pub pitch: usize,
+    /// Rows of luma.
+    pub luma_rows: usize,
+    /// Rows of chroma.
+    pub chroma_rows: usize,
+    /// Bytes of the frame.
     pub total_bytes: usize,
 }
 
-// Refusal 14.
+/// There is no planar layout: refusal 14.
 #[derive(Clone, Copy, Debug, PartialEq, Eq)]
 pub struct NoPlanarLayout;
 
@@ -41,27 +45,28 @@ impl From<NoPlanarLayout> for u32 {
 }
 
 impl PlanarYuvLayout {
-    // Rows of pitch bytes in all: the luma rows, then the chroma rows.
-    pub fn storage_rows(self) -> u32
+    /// Rows of pitch bytes in all: the luma rows, then the chroma rows.
+    pub fn storage_rows(self) -> usize
         requires { Legal self }
         ensures { result ≡ self.luma_rows + self.chroma_rows }
     {
         self.luma_rows + self.chroma_rows
     }
 
-    // Whether (x, y) is a texel of the luma plane, whose rows count up to the pitch, padding included.
+    /// Whether (x, y) is a texel of the luma plane, whose rows count up to the pitch, padding
+    /// included.
     pub fn contains(self, x: usize, y: usize) -> bool
         ensures { result ≡ contains self.pitch self.luma_rows x y }
     {
-        x < (self.pitch as usize) && y < (self.luma_rows as usize)
+        x < self.pitch && y < self.luma_rows
     }
 }
 
-// ---- formats are numbers in these two, as the C interface hands them over: any number has its answer, so that a type would ask more of
-// callers; `layout_from_pitch` takes one
+// ---- formats are codes in these two, and any number has its answer
 
-// The layout of a frame of width x height texels; its pitch is the width raised to a multiple of 4.
-#[tactic(auto, using(crate::specs::Answers::width_none, crate::specs::Answers::width_large, crate::specs::Answers::of_width, crate::specs::Answers::rows_hold))]
+/// The layout of a frame of `width` x `height` texels; its pitch is the width raised to a multiple
+/// of 4. Refused (14) where there is none.
+#[tactic(auto, using(crate::proofs::AnswersLaws::width_none, crate::proofs::AnswersLaws::width_large, crate::proofs::AnswersLaws::of_width, crate::proofs::AnswersLaws::rows_hold))]
 pub fn planar_yuv_layout(
     d3d_format: u32,
     width: u32,
@@ -78,7 +83,8 @@ pub fn planar_yuv_layout(
     planar_yuv_layout_from_pitch(d3d_format, pitch as usize, height as usize)
 }
 
-// The layout of a frame that is known by its pitch and luma rows, which may be any numbers.
+/// The layout of a frame that is known by its pitch in bytes and its luma rows, which may be any
+/// numbers. Refused (14) where there is none.
 #[tactic(auto, using(crate::proofs::Refused::no_planar))]
 pub fn planar_yuv_layout_from_pitch(
     d3d_format: u32,
@@ -94,8 +100,9 @@ pub fn planar_yuv_layout_from_pitch(
     layout_from_pitch(format, pitch, luma_rows)
 }
 
-// The same of a planar format. A match: YV12 has one rule more, and both go on to the rules that they share.
-#[tactic(auto, using(crate::proofs::Refused::too_wide, crate::proofs::Refused::too_tall, crate::proofs::Refused::odd_yv12, crate::specs::Answers::yv12_even, crate::proofs::AnswersLaws::planes_of))]
+/// The layout of a frame of a planar format, by its pitch in bytes and its luma rows. Refused (14)
+/// where there is none.
+#[tactic(auto, using(crate::proofs::Refused::too_wide, crate::proofs::Refused::too_tall, crate::proofs::Refused::odd_yv12, crate::proofs::AnswersLaws::yv12_even, crate::proofs::AnswersLaws::planes_of))]
 pub fn layout_from_pitch(
     format: PlanarYuv,
     pitch: usize,
@@ -104,9 +111,6 @@ pub fn layout_from_pitch(
     ensures reply { reply_of result ≡ from_pitch (planar_yuv_code format) pitch luma_rows }
     ensures planes { PlanesOf (planar_yuv_code format) result }
 {
-    let (Ok(pitch), Ok(luma_rows)) = (u32::try_from(pitch), u32::try_from(luma_rows)) else {
-        return Err(NoPlanarLayout);
-    };
     match format {
         PlanarYuv::YV12 => {
             // The U plane of an odd height has no agreed origin.
@@ -119,27 +123,30 @@ pub fn layout_from_pitch(
     }
 }
 
+// The largest pitch, and the most rows in all.
+const LARGEST: usize = MAX_TEXTURE_DIM as usize;
+
 // The rules that both formats share, which are all of NV12's.
 #[tactic(auto, using(crate::proofs::Refused::no_pitch, crate::proofs::Refused::too_wide, crate::proofs::Refused::odd_pitch, crate::proofs::Refused::no_rows, crate::proofs::Refused::too_tall, crate::proofs::Refused::too_many, crate::proofs::Refused::laid))]
-fn nv12_layout(pitch: u32, luma_rows: u32) -> Result<PlanarYuvLayout, NoPlanarLayout>
+fn nv12_layout(pitch: usize, luma_rows: usize) -> Result<PlanarYuvLayout, NoPlanarLayout>
     ensures { reply_of result ≡ from_pitch NV12 pitch luma_rows }
 {
     // An even pitch keeps a pair of chroma bytes, and half a pitch, in its own row.
-    if pitch == 0 || pitch > MAX_TEXTURE_DIM || pitch % 2 != 0 {
+    if pitch == 0 || pitch > LARGEST || pitch % 2 != 0 {
         return Err(NoPlanarLayout);
     }
-    if luma_rows == 0 || luma_rows > MAX_TEXTURE_DIM {
+    if luma_rows == 0 || luma_rows > LARGEST {
         return Err(NoPlanarLayout);
     }
     let chroma_rows = luma_rows.div_ceil(2);
     let storage_rows = luma_rows + chroma_rows;
-    if storage_rows > MAX_TEXTURE_DIM {
+    if storage_rows > LARGEST {
         return Err(NoPlanarLayout);
     }
     Ok(PlanarYuvLayout {
         pitch,
         luma_rows,
         chroma_rows,
-        total_bytes: (pitch as usize) * (storage_rows as usize),
+        total_bytes: pitch * storage_rows,
     })
 }

@@ -2,27 +2,27 @@
 use Rattle.std.proofs.Common.{◌≡◌, refl, Bool, true, false, ◌||◌, List, ℕ, ◌+◌, ◌<◌, eqb, length, get_or, Result, Ok, Err, ap, ◌∙◌, subst, arith, eqb-true}
 use Rattle.std.proofs.Math.Path.{sym}
 use Rattle.std.proofs.lemmas.Bool.{false≢true}
-use Rattle.words.specs.Iterate.{iterate, iterate_keeps}
 use Rattle.std.proofs.lemmas.List.Edits.{sets}
+use Rattle.words.specs.Iterate.{iterate}
+use Rattle.words.proofs.IterateLaws.{iterate_keeps}
 use Rattle.formats.specs.Classes.{is_yuv}
 use Rattle.formats.specs.Formats.{lane_source_code, yuv_code}
 use Rattle.formats.proofs.Classified.{lanes_no_yuv}
 use Rattle.texels.specs.declared.Texel.{Texel}
 use Rattle.texels.specs.Texels.{encoded_bytes}
-use Rattle.yuv_sets.specs.Sets.{bt601}
-use Rattle.convert_reply.specs.declared.Source.{Source}
-use Rattle.convert_reply.specs.declared.Source.TheVariants.{Lanes, Yuv}
-use Rattle.convert_reply.specs.Sources.{code_of, numbers_of, OfSet}
 use Rattle.places.specs.Places.{places_at, bytes_at}
-use Rattle.yuv_sets.specs.declared.YuvSet.{YuvSet}
-use Rattle.convert_reply.specs.declared.ConvertRegion.{ConvertRegion}
-use Rattle.convert_reply.specs.declared.ConvertRefusal.{ConvertRefusal}
-use Rattle.places.specs.Inside.{texel_fits}
-use Rattle.places.proofs.InsideLaws.{inside_at}
-use Rattle.convert_reply.specs.Replies.{is_empty, source_inside, destination_inside, reply_with, if_accepted}
-use Rattle.regions.specs.Fetch.{any_texel}
+use Rattle.places.proofs.InsideLaws.{texel_fits, inside_at}
+use Rattle.stretch_rect.specs.Sets.{bt601}
+use Rattle.stretch_rect.specs.declared.sets.YuvSet.{YuvSet}
+use Rattle.regions.specs.declared.reply.Source.{Source}
+use Rattle.regions.specs.declared.reply.Source.TheVariants.{Lanes, Yuv}
+use Rattle.regions.specs.Sources.{code_of, numbers_of, OfSet}
+use Rattle.regions.specs.declared.reply.ConvertRegion.{ConvertRegion}
+use Rattle.regions.specs.declared.reply.ConvertRefusal.{ConvertRefusal}
+use Rattle.regions.specs.Replies.{is_empty, source_inside, destination_inside, reply_with, if_accepted}
+use Rattle.regions.proofs.Fetch.{any_texel}
 use Rattle.regions.specs.Regions.{texel_at, to_at, odd_at, source_texel, written, row_written, slice_written, region_written, converted_with, InRegion, NearWith, OwnWith, OthersKept}
-use Rattle.convert_reply.specs.Passed.{convert_rgb, passed, sizes}
+use Rattle.regions.proofs.Checks.{convert_rgb, passed, sizes}
 use Rattle.regions.proofs.Promises.{destination_fits, near_source, own_bytes, others_kept}
 use Rattle.regions.specs.Rows.{RowFits}
 
@@ -52,7 +52,7 @@ any_set : (a b : YuvSet) (src : List ℕ) (s d : ℕ) (r : ConvertRegion) (l : L
 unfolding region_written slice_written row_written written source_texel texel_at
 any_set a b src s d r l h =
     ap (λ (t : Bool → List ℕ → Texel).
-    iterate (λ z. iterate (λ row. iterate (λ col dst. sets dst (to_at d r z row col) (encoded_bytes d (t (odd_at r col) (bytes_at src (places_at s r.src_pitch r.src_slice_pitch z (r.src_y + row) (r.src_x + col)))))) r.width) r.height) r.depth l)
+    iterate (λ z. iterate (λ row. iterate (λ col dst. sets dst (to_at d r z row col) (encoded_bytes d (t (odd_at r col) (bytes_at src (places_at s r.source.pitch r.source.slice_pitch z (r.source.y + row) (r.source.x + col)))))) r.width) r.height) r.depth l)
     (λ i odd bs. any_texel a b s odd bs h i)
 
 pub by_its_set : (numbers : YuvSet) (source : Source) → OfSet numbers source → (src : List ℕ) (d : ℕ) (r : ConvertRegion) (l : List ℕ)
@@ -102,11 +102,11 @@ module _ (numbers : YuvSet) (src dst : List ℕ) (s d : ℕ) (r : ConvertRegion)
       let j = q.destination in
       let w = (sizes r n).0 in
       let source : (col : ℕ) → col < r.width → _ = λ col cl.
-      texel_fits (length src) s r.src_pitch r.src_slice_pitch z (r.src_y + row) (r.src_x + col)
-      (inside_at (length src) s r.src_pitch r.src_slice_pitch r.src_x r.src_y r.width r.height r.depth i z row col zl rl cl) in
+      texel_fits (length src) s r.source.pitch r.source.slice_pitch z (r.source.y + row) (r.source.x + col)
+      (inside_at (length src) s r.source.pitch r.source.slice_pitch r.source.x r.source.y r.width r.height r.depth i z row col zl rl cl) in
       let target : (col : ℕ) → col < r.width → _ = λ col cl.
-      texel_fits (length dst) d r.dst_pitch r.dst_slice_pitch z (r.dst_y + row) (r.dst_x + col)
-      (inside_at (length dst) d r.dst_pitch r.dst_slice_pitch r.dst_x r.dst_y r.width r.height r.depth j z row col zl rl cl) in
+      texel_fits (length dst) d r.destination.pitch r.destination.slice_pitch z (r.destination.y + row) (r.destination.x + col)
+      (inside_at (length dst) d r.destination.pitch r.destination.slice_pitch r.destination.x r.destination.y r.width r.height r.depth j z row col zl rl cl) in
       record {
         pair = c;
         rows = (w, (source 0 w).row, (target 0 w).row);

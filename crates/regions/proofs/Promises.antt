@@ -2,34 +2,32 @@
 use Rattle.std.proofs.Common.{◌≡◌, refl, Bool, true, false, ℤ, length, get_or, take, drop, Result, Ok, Err, sym, ap, ◌∙◌, subst, div-one, ne_eqb, List, [], ◌∷◌, ℕ, zero, suc, ◌+◌, ◌-◌, ◌/◌, ◌^◌, ◌≤◌, ◌<◌, arith}
 use Rattle.words.specs.Little.{number}
 use Rattle.words.specs.Tests.{pick}
+use Rattle.words.proofs.IntegersLaws.{clamp_byte}
 use Rattle.formats.specs.Lanes.{Channel, red, green, blue, Lane, nowhere, at}
-use Rattle.formats.specs.Packing.{Held}
+use Rattle.formats.proofs.Packing.{Held}
 use Rattle.formats.specs.Table.{lane_of, bytes_of}
 use Rattle.formats.specs.Classes.{is_convertible_rgb, is_yuv}
-use Rattle.formats.specs.Listed.{rgb_some, rgb_not_planar, rgb_not_packed}
-use Rattle.channels.specs.Fractions.{whole_near}
+use Rattle.formats.proofs.Listed.{rgb_some, rgb_not_planar, rgb_not_packed}
+use Rattle.channels.proofs.FractionsLaws.{whole_near}
 use Rattle.channels.specs.Expansion.{truncated}
-use Rattle.yuv_sets.specs.declared.YuvSet.{YuvSet}
-use Rattle.yuv_sets.specs.Sets.{bt601, same_set}
-use Rattle.yuv_sets.specs.Legal.{same_set_lem}
+use Rattle.texels.specs.declared.Texel.{Texel}
+use Rattle.texels.specs.Texels.{decoded_of, encoded_bytes, byte_of, code_of, exact_of, value_of, Holds}
+use Rattle.texels.proofs.TexelsLaws.{Stands}
+use Rattle.texels.proofs.BoundsLaws.{channel_byte, encoded_holds, encoded_number, decoded_stands, near_bytes}
+use Rattle.places.specs.Places.{Places, absent, offsets, bytes_from, bytes_at}
+use Rattle.places.proofs.InsideLaws.{texel_fits, lane_ends, inside_at}
+use Rattle.stretch_rect.specs.declared.sets.YuvSet.{YuvSet}
+use Rattle.stretch_rect.specs.Sets.{bt601, same_set}
+use Rattle.stretch_rect.proofs.LegalLaws.{same_set_is}
 use Rattle.stretch_rect.specs.Yuv.{rgb_of, red_rounded, green_rounded, blue_rounded, set_unit, set_slack, ByteNear, red_exact, green_exact, blue_exact, decimal_unit, red_decimal, green_decimal, blue_decimal}
 use Rattle.stretch_rect.proofs.NearnessLaws.{set_near}
-use Rattle.stretch_rect.specs.Exact.{RgbStands}
-use Rattle.stretch_rect.proofs.ExactLaws.{bt601_stands, set_stands}
-use Rattle.words.specs.Integers.{clamp_byte}
-use Rattle.convert_reply.specs.declared.ConvertRegion.{ConvertRegion}
-use Rattle.convert_reply.specs.declared.ConvertRefusal.{ConvertRefusal}
-use Rattle.texels.specs.declared.Texel.{Texel}
-use Rattle.texels.specs.Texels.{decoded_of, encoded_bytes, byte_of, code_of, exact_of, value_of, Stands, Holds}
-use Rattle.texels.specs.Bounds.{channel_byte, encoded_holds, encoded_number}
-use Rattle.texels.proofs.BoundsLaws.{decoded_stands, near_bytes}
-use Rattle.places.specs.Places.{Places, absent, offsets, bytes_from, bytes_at}
-use Rattle.places.specs.Inside.{texel_fits, lane_ends}
-use Rattle.places.proofs.InsideLaws.{inside_at}
-use Rattle.convert_reply.specs.Replies.{is_empty, destination_inside, reply_to, if_accepted}
+use Rattle.stretch_rect.proofs.ExactLaws.{RgbStands, bt601_stands, set_stands}
+use Rattle.regions.specs.declared.reply.ConvertRegion.{ConvertRegion}
+use Rattle.regions.specs.declared.reply.ConvertRefusal.{ConvertRefusal}
+use Rattle.regions.specs.Replies.{is_empty, destination_inside, reply_to, if_accepted}
 use Rattle.regions.specs.Regions.{luma_of, u_of, v_of, opaque_of, texel_of, clamped_values, yuv_values, values_of, texel_at, exact_at, to_at, source_bytes, odd_at, source_texel, source_values, region_written, converted_with, InRegion, Disjoint, NearWith, HoldsByte, HoldsColour, OwnWith, OthersKept}
-use Rattle.regions.specs.Stored.{region_other, region_own}
-use Rattle.convert_reply.specs.Passed.{convert_rgb, passed}
+use Rattle.regions.proofs.Stored.{region_other, region_own}
+use Rattle.regions.proofs.Checks.{convert_rgb, passed}
 
 -- ---- a region with a texel
 pub not_empty : (r : ConvertRegion) (z row col : ℕ) → InRegion r z row col → is_empty r ≡ false
@@ -42,10 +40,10 @@ pub destination_fits : (d : ℕ) (r : ConvertRegion) (m : ℕ) → is_convertibl
     → (z row col : ℕ) → InRegion r z row col → to_at d r z row col + bytes_of d ≤ m
 unfolding destination_inside to_at
 destination_fits d r m rgb h z row col t =
-    let y = r.dst_y + row in
-    let x = r.dst_x + col in
-    let k = texel_fits m d r.dst_pitch r.dst_slice_pitch z y x (inside_at m d r.dst_pitch r.dst_slice_pitch r.dst_x r.dst_y r.width r.height r.depth h z row col t.slice t.line t.column) in
-    lane_ends m d r.dst_pitch r.dst_slice_pitch z y x k.places (rgb_not_planar d rgb) (rgb_not_packed d rgb) (rgb_some d rgb)
+    let y = r.destination.y + row in
+    let x = r.destination.x + col in
+    let k = texel_fits m d r.destination.pitch r.destination.slice_pitch z y x (inside_at m d r.destination.pitch r.destination.slice_pitch r.destination.x r.destination.y r.width r.height r.depth h z row col t.slice t.line t.column) in
+    lane_ends m d r.destination.pitch r.destination.slice_pitch z y x k.places (rgb_not_planar d rgb) (rgb_not_packed d rgb) (rgb_some d rgb)
 
 -- ---- what an accepted conversion stores at a texel that shares no byte
 stored : (numbers : YuvSet) (src dst : List ℕ) (s d : ℕ) (r : ConvertRegion) → reply_to numbers s d r (length src) (length dst) ≡ Ok tt → Disjoint d r
@@ -62,8 +60,8 @@ yuv_texel : (numbers : YuvSet) (src : List ℕ) (s : ℕ) (r : ConvertRegion) (z
 unfolding source_texel texel_at texel_of source_bytes
 yuv_texel numbers src s r z row col yuv = rw yuv refl
 
--- ---- a YUV sample's colour stands for its exact values
 module _ (numbers : YuvSet) (y u v : ℕ) where
+  -- ---- a YUV sample's colour stands for its exact values
   opaque_stands : {unit : ℕ} {red green blue : ℤ} → RgbStands unit red green blue (rgb_of numbers y u v) → Stands (opaque_of (rgb_of numbers y u v)) (clamped_values unit red green blue)
   unfolding rgb_of
   opaque_stands k = record {
@@ -82,11 +80,11 @@ module _ (numbers : YuvSet) (y u v : ℕ) where
     where
       go : (t : Bool) → same_set numbers bt601 ≡ t
           → Stands (opaque_of (rgb_of numbers y u v)) (pick t (clamped_values decimal_unit (red_decimal y u v) (green_decimal y u v) (blue_decimal y u v)) (clamped_values set_unit (red_exact numbers y u v) (green_exact numbers y u v) (blue_exact numbers y u v)))
-      go true e = opaque_stands (subst (λ n. RgbStands decimal_unit (red_decimal y u v) (green_decimal y u v) (blue_decimal y u v) (rgb_of n y u v)) (sym (same_set_lem numbers bt601 e)) (bt601_stands y u v hy hu hv))
+      go true e = opaque_stands (subst (λ n. RgbStands decimal_unit (red_decimal y u v) (green_decimal y u v) (blue_decimal y u v) (rgb_of n y u v)) (sym (same_set_is numbers bt601 e)) (bt601_stands y u v hy hu hv))
       go false e = opaque_stands (set_stands numbers y u v)
 
--- ---- every source texel stands for its exact values
 module _ (numbers : YuvSet) (src : List ℕ) (byte : (i : ℕ) → get_or src i 0 < 256) where
+  -- ---- every source texel stands for its exact values
   from_byte : (os : List ℕ) (i : ℕ) → get_or (bytes_from src os) i 0 < 256
   from_byte [] i = omega arith
   from_byte (o ∷ os) zero = byte o

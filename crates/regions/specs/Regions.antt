@@ -9,17 +9,17 @@ use Rattle.formats.specs.Lanes.{Channel, red, green, blue, Lane, nowhere, at, co
 use Rattle.formats.specs.Table.{lane_of, bytes_of}
 use Rattle.formats.specs.Classes.{is_packed_yuv, is_yuv}
 use Rattle.channels.specs.Fractions.{◌over◌}
-use Rattle.yuv_sets.specs.declared.YuvSet.{YuvSet}
-use Rattle.yuv_sets.specs.Sets.{bt601, same_set}
+use Rattle.texels.specs.declared.Texel.{Texel}
+use Rattle.texels.specs.Texels.{decoded_of, encoded_bytes, exact_of, Values, value_of, is_colour, Holds}
+use Rattle.places.specs.Places.{texel_start, places_at, bytes_at}
+use Rattle.stretch_rect.specs.declared.sets.YuvSet.{YuvSet}
+use Rattle.stretch_rect.specs.Sets.{bt601, same_set}
 use Rattle.stretch_rect.specs.declared.Rgb.{Rgb}
 use Rattle.stretch_rect.specs.Yuv.{rgb_of, set_unit, set_slack, ByteNear, red_exact, green_exact, blue_exact, decimal_unit, red_decimal, green_decimal, blue_decimal}
 use Rattle.stretch_rect.specs.Samples.{luma_place, u_place, v_place}
 use Rattle.stretch_rect.specs.Exact.{clamped_value}
-use Rattle.texels.specs.declared.Texel.{Texel}
-use Rattle.convert_reply.specs.declared.ConvertRegion.{ConvertRegion}
-use Rattle.texels.specs.Texels.{decoded_of, encoded_bytes, exact_of, Values, value_of, is_colour, Holds}
-use Rattle.places.specs.Places.{texel_start, places_at, bytes_at}
-use Rattle.convert_reply.specs.Replies.{reply_with, if_accepted}
+use Rattle.regions.specs.declared.reply.ConvertRegion.{ConvertRegion}
+use Rattle.regions.specs.Replies.{reply_with, if_accepted}
 
 -- ---- the texel of a source
 -- a YUV texel's luma: in a macropixel it stands by format and column, in a planar texel's bytes first
@@ -46,7 +46,7 @@ texel_of numbers f odd bs = pick (is_yuv f) (opaque_of (rgb_of numbers (luma_of 
 abbrev pub clamped_values : (unit : ℕ) (red green blue : ℤ) → Values
 clamped_values unit x y z = record { r = clamped_value unit x; g = clamped_value unit y; b = clamped_value unit z; a = 255 over 1 }
 
--- the exact values of a YUV sample: by bt601 document 01's decimals, and by any other set what its own numbers define
+-- the exact values of a YUV sample: by bt601 its decimals, and by any other set what its own numbers define
 abbrev pub yuv_values : YuvSet → (y u v : ℕ) → Values
 yuv_values numbers y u v =
     pick (same_set numbers bt601)
@@ -68,23 +68,23 @@ exact_at numbers src f pitch slice_pitch z y x = values_of numbers f (eqb (x % 2
 -- ---- the bytes
 -- where the destination texel at (z, row, col) of a region starts
 unfoldable pub to_at : (d : ℕ) → ConvertRegion → (z row col : ℕ) → ℕ
-to_at d r z row col = texel_start r.dst_pitch r.dst_slice_pitch (bytes_of d) z (r.dst_y + row) (r.dst_x + col)
+to_at d r z row col = texel_start r.destination.pitch r.destination.slice_pitch (bytes_of d) z (r.destination.y + row) (r.destination.x + col)
 
 -- the bytes of the source texel at (z, row, col) of a region
 unfoldable pub source_bytes : (src : List ℕ) (s : ℕ) → ConvertRegion → (z row col : ℕ) → List ℕ
-source_bytes src s r z row col = bytes_at src (places_at s r.src_pitch r.src_slice_pitch z (r.src_y + row) (r.src_x + col))
+source_bytes src s r z row col = bytes_at src (places_at s r.source.pitch r.source.slice_pitch z (r.source.y + row) (r.source.x + col))
 
 -- whether its column is odd
 abbrev pub odd_at : ConvertRegion → (col : ℕ) → Bool
-odd_at r col = eqb ((r.src_x + col) % 2) 1
+odd_at r col = eqb ((r.source.x + col) % 2) 1
 
 -- the source texel at (z, row, col) of a region
 unfoldable pub source_texel : YuvSet → (src : List ℕ) (s : ℕ) → ConvertRegion → (z row col : ℕ) → Texel
-source_texel numbers src s r z row col = texel_at numbers src s r.src_pitch r.src_slice_pitch z (r.src_y + row) (r.src_x + col)
+source_texel numbers src s r z row col = texel_at numbers src s r.source.pitch r.source.slice_pitch z (r.source.y + row) (r.source.x + col)
 
 -- its exact values
 unfoldable pub source_values : YuvSet → (src : List ℕ) (s : ℕ) → ConvertRegion → (z row col : ℕ) → Values
-source_values numbers src s r z row col = exact_at numbers src s r.src_pitch r.src_slice_pitch z (r.src_y + row) (r.src_x + col)
+source_values numbers src s r z row col = exact_at numbers src s r.source.pitch r.source.slice_pitch z (r.source.y + row) (r.source.x + col)
 
 -- one texel written
 unfoldable pub written : YuvSet → (src : List ℕ) (s d : ℕ) → ConvertRegion → (z row col : ℕ) → List ℕ → List ℕ
@@ -106,7 +106,7 @@ region_written numbers src s d r = iterate (slice_written numbers src s d r) r.d
 unfoldable pub converted_with : YuvSet → (src dst : List ℕ) (s d : ℕ) → ConvertRegion → List ℕ
 converted_with numbers src dst s d r = if_accepted (reply_with numbers src dst s d r) (region_written numbers src s d r dst) dst
 
--- the same by document 01's numbers
+-- the same by bt601
 abbrev pub converted_bytes : (src dst : List ℕ) (s d : ℕ) → ConvertRegion → List ℕ
 converted_bytes src dst s d r = converted_with bt601 src dst s d r
 
@@ -135,7 +135,7 @@ NearWith numbers src dst out s d r =
     → (z row col : ℕ) → InRegion r z row col → (c : Channel) → is_colour c ≡ true
     → Holds c (lane_of d c) (number (take (bytes_of d) (drop (to_at d r z row col) out))) (value_of (source_values numbers src s r z row col) c)
 
--- the same by document 01's numbers
+-- the same by bt601
 abbrev pub NearSource : (src dst out : List ℕ) (s d : ℕ) → ConvertRegion → Type 0
 NearSource src dst out s d r = NearWith bt601 src dst out s d r
 

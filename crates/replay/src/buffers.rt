@@ -1,19 +1,22 @@
-// Cases of the public calls that are lent buffers. A record of the files `buffers` and `sets` has 512 bytes: the call's number and 1 for a
-// refusal (else 0), of 32 bits each; fifteen parameters of 64 bits, the lengths of the lent buffers first; three areas of 72
-// bytes that hold the buffers before the call, and two that hold what is written after it. An area is longer than what is lent
-// of it, and every byte of it is compared.
+//! Cases of the public calls that are lent buffers. A record of the files `buffers`, `sets` and
+//! `wrong_buffers` has 512 bytes: the call's number and 1 for a refusal (else 0), of 32 bits each;
+//! fifteen parameters of 64 bits, the lengths of the lent buffers first; three areas of 72 bytes
+//! that hold the buffers before the call, and two that hold what is written after it. An area is
+//! longer than what is lent of it, and every byte of it is compared.
 ghost use Rattle.std.specs.Prelude.{◌≡◌, ◌≤◌, ◌<◌, length};
 
 use crate::call::Call;
 use crate::counts::Outcome;
 use crate::record::{Record, Records};
+use depth_texture::PlaneLayout;
+use places::Side;
+use regions::ConvertRegion;
+use stretch_rect::YuvSet;
 
-/// The records of the files `buffers` and `sets`.
+/// The records of the files `buffers`, `sets` and `wrong_buffers`.
 #[derive(Clone, Copy)]
 pub(crate) struct Buffers;
 
-// Two impls alike, here and in values.rt: as a method of the trait over `Record<'_, SIZE>` neither got a proof, since the check did not fit
-// its signature, by the lifetime or the const parameter (tried).
 impl Records<512> for Buffers {
     fn outcome(self, bytes: &[u8; 512]) -> Outcome {
         let record: Record<'_, 512> = Record { bytes };
@@ -21,8 +24,7 @@ impl Records<512> for Buffers {
     }
 }
 
-// Whether the call answers as the record says; it does not if its records are in another file. A match: a table of calls and functions would
-// be searched for the call, and what it found be called through a pointer; an arm has both side by side.
+// Whether the call answers as the record says; it does not if its records are in another file.
 fn agrees(call: Call, record: Record<'_, 512>) -> bool {
     match call {
         Call::ConvertRegion => convert_region(record),
@@ -34,10 +36,8 @@ fn agrees(call: Call, record: Record<'_, 512>) -> bool {
     }
 }
 
-// The four are asked for a place by a literal; a place that is known to be one would be a type of its own for each of the three bounds,
-// made of that literal at each of the calls.
 impl<'a> Record<'a, 512> {
-    /// One of the five areas.
+    // One of the five areas.
     fn area(self, place: usize) -> &'a [u8; 72]
         requires { place < 5 }
         ensures { length result.now ≡ 72 }
@@ -46,7 +46,7 @@ impl<'a> Record<'a, 512> {
         bytes[128 + 72 * place..].first_chunk().unwrap()
     }
 
-    /// How much is lent of an area.
+    // How much is lent of an area.
     fn length(self, place: usize) -> usize
         requires { place < 3 }
         ensures { result ≤ 72 }
@@ -54,7 +54,7 @@ impl<'a> Record<'a, 512> {
         self.size(place).min(72)
     }
 
-    /// What is lent of an area to be read.
+    // What is lent of an area to be read.
     fn lent(self, place: usize) -> &'a [u8]
         requires { place < 3 }
     {
@@ -62,109 +62,115 @@ impl<'a> Record<'a, 512> {
         &area[..self.length(place)]
     }
 
-    /// A number of the set that the third area of a conversion's record has.
-    fn set_number(self, place: usize) -> u32
-        requires { place < 7 }
-    {
+    // The region of a conversion's record.
+    fn region(self) -> ConvertRegion {
+        ConvertRegion {
+            source: Side {
+                pitch: self.size(10),
+                slice_pitch: self.size(12),
+                x: self.number(4),
+                y: self.number(5),
+            },
+            destination: Side {
+                pitch: self.size(11),
+                slice_pitch: self.size(13),
+                x: self.number(6),
+                y: self.number(7),
+            },
+            depth: self.size(14),
+            width: self.number(8),
+            height: self.number(9),
+        }
+    }
+
+    // The set that the third area of a conversion's record has.
+    fn set(self) -> YuvSet {
         let numbers = self.area(2);
-        words::le32(&numbers[4 * place..])
+        YuvSet {
+            luma_gain: words::le32(numbers),
+            luma_offset: words::le32(&numbers[4..]),
+            v_to_red: words::le32(&numbers[8..]),
+            u_to_green: words::le32(&numbers[12..]),
+            v_to_green: words::le32(&numbers[16..]),
+            u_to_blue: words::le32(&numbers[20..]),
+            chroma_centre: words::le32(&numbers[24..]),
+        }
+    }
+
+    // The layout of a depth transfer's record.
+    fn planes(self) -> PlaneLayout {
+        PlaneLayout {
+            width: self.size(4),
+            height: self.size(5),
+            depth_pitch: self.size(6),
+            stencil_pitch: self.size(7),
+        }
     }
 }
 
-// Parameters: lengths of source and destination; then those of the call, one by one as the C interface has them. Areas: source,
-// destination; destination after.
+// Parameters: lengths of source and destination; formats of destination and source; then the
+// region's eleven numbers. Areas: source, destination; destination after.
 fn convert_region(record: Record<'_, 512>) -> bool {
     let mut dst = *record.area(1);
-    let reply = wentuqis::wentuqis_convert_region(
+    let reply = pixel_convert::convert_region(
         &mut dst[..record.length(1)],
         record.number(2),
         record.lent(0),
         record.number(3),
-        record.number(4),
-        record.number(5),
-        record.number(6),
-        record.number(7),
-        record.number(8),
-        record.number(9),
-        record.size(10),
-        record.size(11),
-        record.size(12),
-        record.size(13),
-        record.size(14),
+        &record.region(),
     );
-    record.has_reply(reply) && dst == *record.area(3)
+    reply.is_err() == record.is_refused() && dst == *record.area(3)
 }
 
-// Parameters as for convert_region. Areas: source, destination, the seven numbers of 32 bits; destination after.
+// Parameters as for convert_region. Areas: source, destination, the seven numbers of 32 bits;
+// destination after.
 fn convert_region_with_set(record: Record<'_, 512>) -> bool {
     let mut dst = *record.area(1);
-    let reply = wentuqis::wentuqis_convert_region_with_set(
+    let reply = pixel_convert::convert_region_with_set(
         &mut dst[..record.length(1)],
         record.number(2),
         record.lent(0),
         record.number(3),
-        record.number(4),
-        record.number(5),
-        record.number(6),
-        record.number(7),
-        record.number(8),
-        record.number(9),
-        record.size(10),
-        record.size(11),
-        record.size(12),
-        record.size(13),
-        record.size(14),
-        record.set_number(0),
-        record.set_number(1),
-        record.set_number(2),
-        record.set_number(3),
-        record.set_number(4),
-        record.set_number(5),
-        record.set_number(6),
+        &record.region(),
+        &record.set(),
     );
-    record.has_reply(reply) && dst == *record.area(3)
+    reply.is_err() == record.is_refused() && dst == *record.area(3)
 }
 
-// Parameters: lengths of packed, depth and stencil; format, width, height, depth pitch, stencil pitch, packed pitch. Areas:
-// packed, depth, stencil; depth and stencil after.
+// Parameters: lengths of packed, depth and stencil; format, width, height, depth pitch, stencil
+// pitch, packed pitch. Areas: packed, depth, stencil; depth and stencil after.
 fn unpack(record: Record<'_, 512>) -> bool {
     let mut depth = *record.area(1);
     let mut stencil = *record.area(2);
-    let reply = wentuqis::wentuqis_unpack(
-        record.number(3),
-        record.size(4),
-        record.size(5),
-        record.size(6),
-        record.size(7),
-        record.lent(0),
-        record.size(8),
+    let reply = depth_texture::unpack(
         &mut depth[..record.length(1)],
         &mut stencil[..record.length(2)],
+        record.lent(0),
+        record.size(8),
+        record.number(3),
+        record.planes(),
     );
     let same_planes = depth == *record.area(3) && stencil == *record.area(4);
-    record.has_reply(reply) && same_planes
+    reply.is_err() == record.is_refused() && same_planes
 }
 
 // Parameters and areas as for unpack; packed after.
 fn pack(record: Record<'_, 512>) -> bool {
     let mut packed = *record.area(0);
-    let reply = wentuqis::wentuqis_pack(
-        record.number(3),
-        record.size(4),
-        record.size(5),
-        record.size(6),
-        record.size(7),
-        record.lent(1),
-        record.lent(2),
+    let reply = depth_texture::pack(
         &mut packed[..record.length(0)],
         record.size(8),
+        record.lent(1),
+        record.lent(2),
+        record.number(3),
+        record.planes(),
     );
-    record.has_reply(reply) && packed == *record.area(3)
+    reply.is_err() == record.is_refused() && packed == *record.area(3)
 }
 
 // Parameters: lengths of pixel and destination. Areas: pixel, destination; destination after.
 fn splat_pixel_pattern(record: Record<'_, 512>) -> bool {
     let mut dst = *record.area(1);
-    wentuqis::wentuqis_splat_pixel_pattern(&mut dst[..record.length(1)], record.lent(0));
+    convert::splat_pixel_pattern(&mut dst[..record.length(1)], record.lent(0));
     dst == *record.area(3)
 }

@@ -1,4 +1,4 @@
-// The recorded calls. oracle/README.md lists them.
+//! The recorded calls. oracle/README.md lists them.
 ghost use Rattle.replay.specs.Call.{Decodes};
 
 use std::fmt;
@@ -89,7 +89,6 @@ impl TryFrom<u32> for Call {
 
     ghost try_from_gives = { Decodes };
 
-    // A match: of a table a proof would have to know each call in its number's place (`Decodes`), thirty-one entries.
     fn try_from(number: u32) -> Result<Self, UnknownCall> {
         match number {
             1 => Ok(Call::Expand4),
@@ -129,7 +128,6 @@ impl TryFrom<u32> for Call {
 }
 
 impl fmt::Display for Call {
-    // A match: of a table of names the compiler would not see that each call has one, and in the call's place.
     fn fmt<W: fmt::Write>(&self, f: &mut fmt::Formatter<W>) -> fmt::Result {
         f.pad(match self {
             Call::Expand4 => "expand4",

@@ -1,4 +1,4 @@
-// What comes of the records, counted for each call.
+//! What comes of the records, counted for each call.
 use crate::call::Call;
 use std::fmt;
 
@@ -16,8 +16,11 @@ pub(crate) struct Outcome {
 /// How many cases of a call there are, how many of them are refused, and how many differ.
 #[derive(Clone, Copy, Default)]
 pub(crate) struct Count {
+    /// Cases.
     pub cases: u64,
+    /// Cases in which the call is refused.
     pub refused: u64,
+    /// Cases in which the call answers otherwise than its record says.
     pub differ: u64,
 }
 

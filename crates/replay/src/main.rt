@@ -1,9 +1,9 @@
-// Replays recorded answers: reads the files `vectors`, `values`, `buffers` and `sets`, computes each call anew, and prints for each call
-// how many cases there are and how many of them differ. `vectors` has records of the arithmetic of one channel, which
-// src/vectors.rt describes; the others have records for every public call, which src/values.rt and
-// src/buffers.rt describe. oracle/record.rs recorded all four, from the original Rust; for pairs of formats that it does not
-// convert, from the exact fractions of oracle/stills.rs; for sets of YUV numbers that it does not have, from the whole numbers of
-// oracle/sets.rs; and for binary16 between 2^-25 and 2^-24, from oracle/float16.c. oracle/README.md lists the calls.
+//! Replays recorded answers: reads the files `vectors`, `values`, `buffers` and `sets`, computes
+//! each call anew, and prints for each call how many cases there are and how many of them differ.
+//! It does the same with `wrong_vectors`, `wrong_values` and `wrong_buffers`, in each of whose
+//! records one part of the answer is wrong: each has to differ, so that a comparison which is left
+//! out shows. The records are described in src/vectors.rt, src/values.rt and src/buffers.rt;
+//! oracle/README.md lists the calls and says what they were recorded from.
 #![tactic(auto)]
 
 mod buffers;
@@ -25,8 +25,8 @@ use std::{fs, io};
 use values::Values;
 use vectors::Vectors;
 
-// Adds each record of the file to the counts. Bytes at its end that are no whole record are left out.
-// A read takes one record, since a buffered reader needs the heap.
+// Adds each record of the file to the counts, a record a read. Bytes at its end that are no whole
+// record are left out.
 fn replay_file<const SIZE: usize, R: Records<SIZE>>(
     file: &mut impl Read,
     records: R,
@@ -78,5 +78,12 @@ fn main(rt: HostRuntime) -> io::Result<()> {
     replay(&rt, "values", Values, &mut counts)?;
     replay(&rt, "buffers", Buffers, &mut counts)?;
     replay(&rt, "sets", Buffers, &mut counts)?;
-    print_counts(&rt, &counts)
+    print_counts(&rt, &counts)?;
+
+    println!(rt; "wrong answers, each of which has to differ:")?;
+    let mut wrong = Counts::default();
+    replay(&rt, "wrong_vectors", Vectors, &mut wrong)?;
+    replay(&rt, "wrong_values", Values, &mut wrong)?;
+    replay(&rt, "wrong_buffers", Buffers, &mut wrong)?;
+    print_counts(&rt, &wrong)
 }

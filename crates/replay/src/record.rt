@@ -1,23 +1,20 @@
-// A record of a public call.
+//! A record of a public call.
 ghost use Rattle.std.specs.Prelude.{◌≡◌, ◌+◌, ◌*◌, ◌≤◌, length};
 
 use crate::call::Call;
 use crate::counts::Outcome;
 
-/// The records of a file, of SIZE bytes each.
-// A trait of one method, and no `Fn(&[u8; SIZE]) -> Outcome`: of a function that is handed over `replay` and `replay_file` would have to ask,
-// by a `requires`, that it may be called with every record; an impl may be called as it is.
+/// The records of a file, of `SIZE` bytes each.
 pub(crate) trait Records<const SIZE: usize>: Copy {
     /// Computes the call of a record anew.
     fn outcome(self, record: &[u8; SIZE]) -> Outcome;
 }
 
-/// The bytes of a record: the call's number and 1 for a refusal (else 0), of 32 bits each, and then numbers of 64 bits, which are
-/// the call's parameters first.
-// A slice with its length beside: with `&'a [u8; SIZE]` the borrow checker takes no part `[4..]` of an array whose length is a parameter,
-// and for a slice of the whole it stays open that SIZE is below 2^63.
+/// The bytes of a record: the call's number and 1 for a refusal (else 0), of 32 bits each, and then
+/// numbers of 64 bits, which are the call's parameters first.
 #[derive(Clone, Copy)]
 pub(crate) struct Record<'a, const SIZE: usize> {
+    /// `SIZE` bytes.
     pub bytes: &'a [u8],
     ghost whole: { length bytes.now ≡ SIZE },
     ghost headed: { 8 ≤ SIZE },
@@ -35,14 +32,6 @@ impl<const SIZE: usize> Record<'_, SIZE> {
         let bytes = self.bytes;
         words::le32(&bytes[4..]) != 0
     }
-
-    /// Whether the record says of the call what a reply does: 0 is acceptance, any other number a refusal.
-    pub(crate) fn has_reply(self, reply: u32) -> bool {
-        (reply != 0) == self.is_refused()
-    }
-
-    // The three that follow are asked for a place by a literal; a place that is known to lie in the record would be a type over SIZE,
-    // made of that literal at each of the calls.
 
     /// A number of 64 bits.
     pub(crate) fn long(self, place: usize) -> u64

@@ -1,10 +1,10 @@
-// Cases of the arithmetic of one channel. A record of the file `vectors` has 16 bytes: four words of 32 bits, the call's number, two
-// arguments and the answer.
+//! Cases of the arithmetic of one channel. A record of the files `vectors` and `wrong_vectors` has
+//! 16 bytes: four words of 32 bits, the call's number, two arguments and the answer.
 use crate::call::Call;
 use crate::counts::Outcome;
 use crate::record::Records;
 
-/// The records of the file `vectors`.
+/// The records of the files `vectors` and `wrong_vectors`.
 #[derive(Clone, Copy)]
 pub(crate) struct Vectors;
 
@@ -23,9 +23,8 @@ impl Records<16> for Vectors {
     }
 }
 
-// What this library computes, or `None` for a call whose records are in another file, and for arguments that it does not take.
-// A match: the functions take one byte, three, a word or an argument as it is, and answer with 8, 16 or 32 bits, so a table would have a
-// closure around each of them.
+// What this library computes, or `None` for a call whose records are in another file, and for
+// arguments that it does not take.
 fn answer(call: Call, a: u32, b: u32) -> Option<u32> {
     let [byte, green, red, _] = a.to_le_bytes();
     let word = u16::from_le_bytes([byte, green]);
@@ -51,8 +50,6 @@ fn answer(call: Call, a: u32, b: u32) -> Option<u32> {
     Some(answer)
 }
 
-// Scales are the numbers that records have as an argument: a type of them would be made of the number and matched at once.
-
 // The nearest code, for the scales that are recorded.
 fn nearest_code(channel: u8, max: u32) -> Option<u32> {
     match max {
@@ -61,8 +58,7 @@ fn nearest_code(channel: u8, max: u32) -> Option<u32> {
     }
 }
 
-// The nearest byte by the function of its own scale, which the match chooses: the three take words of two types, so that a table would
-// have three closures.
+// The nearest byte, by the function of its scale, for the scales that are recorded.
 fn nearest_byte(code: u32, max: u32) -> Option<u32> {
     let byte = match max {
         3 => channels::expand::<2>((code % 4) as u16),

@@ -1,14 +1,22 @@
 -- How near the colour of a YUV texel lies to its exact values, in quarters. Assumes nothing.
-use Rattle.std.proofs.Common.{ℕ, ◌*◌, ◌≤◌, ◌<◌, ℤ, arith, lit<, lit≤}
+use Rattle.std.specs.Prelude.{ℕ, ℤ}
+use Rattle.std.proofs.Common.{◌*◌, ◌≤◌, ◌<◌, arith, lit<, lit≤}
 use Rattle.words.specs.Integers.{clamp_to}
-use Rattle.channels.specs.Fractions.{◌over◌, Near, whole_near}
+use Rattle.channels.specs.Fractions.{◌over◌, Near}
+use Rattle.channels.proofs.FractionsLaws.{whole_near}
 use Rattle.stretch_rect.specs.declared.Rgb.{Rgb}
-use Rattle.yuv_sets.specs.declared.YuvSet.{YuvSet}
-use Rattle.yuv_sets.specs.Sets.{bt601}
+use Rattle.stretch_rect.specs.Exact.{clamped_value}
+use Rattle.stretch_rect.specs.declared.sets.YuvSet.{YuvSet}
+use Rattle.stretch_rect.specs.Sets.{bt601}
 use Rattle.stretch_rect.specs.Yuv.{set_unit, decimal_unit, ByteNear, RgbNear, rgb_of, red_exact, green_exact, blue_exact, red_decimal, green_decimal, blue_decimal}
 use Rattle.stretch_rect.proofs.NearnessLaws.{set_near}
 use Rattle.stretch_rect.proofs.Decimals.{bt601_near}
-use Rattle.stretch_rect.specs.Exact.{clamped_value, RgbStands}
+
+-- a colour lies within 3/4 of three exact values, clamped
+pub record RgbStands (unit : ℕ) (red green blue : ℤ) (p : Rgb) : Type 0 where
+  pub red_stands : Near 3 (p.r over 1) (clamped_value unit red)
+  pub green_stands : Near 3 (p.g over 1) (clamped_value unit green)
+  pub blue_stands : Near 3 (p.b over 1) (clamped_value unit blue)
 
 byte_stands : {unit slack b : ℕ} {z : ℤ} → 0 < unit → 4 * slack ≤ 3 * unit → ByteNear unit slack z b → Near 3 (b over 1) (clamped_value unit z)
 byte_stands {unit} {slack} {b} {z} U h n =
@@ -17,7 +25,7 @@ byte_stands {unit} {slack} {b} {z} U h n =
 stands : {unit slack : ℕ} {red green blue : ℤ} {p : Rgb} → 0 < unit → 4 * slack ≤ 3 * unit → RgbNear unit slack red green blue p → RgbStands unit red green blue p
 stands U h n = record { red_stands = byte_stands U h n.red_near; green_stands = byte_stands U h n.green_near; blue_stands = byte_stands U h n.blue_near }
 
--- document 01's decimals, at every sample of three bytes
+-- the decimals of bt601, at every sample of three bytes
 pub bt601_stands : (y u v : ℕ) → y < 256 → u < 256 → v < 256 → RgbStands decimal_unit (red_decimal y u v) (green_decimal y u v) (blue_decimal y u v) (rgb_of bt601 y u v)
 bt601_stands y u v hy hu hv = stands (lit< tt) (lit≤ tt) (bt601_near y u v hy hu hv)
 

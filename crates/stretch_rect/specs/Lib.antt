@@ -1,5 +1,9 @@
--- What the contracts cite, and laws that other crates cite.
+-- What the contracts cite.
 pub mod Yuv
 pub mod Samples
-pub mod Nearness
 pub mod Exact
+pub mod Sets
+pub mod Legal
+pub mod Parts
+pub mod Lines
+pub mod Entries

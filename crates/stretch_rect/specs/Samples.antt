@@ -7,7 +7,7 @@ use Rattle.planar_yuv.specs.Offsets.{luma_offset_at, u_offset_at, v_offset_at}
 use Rattle.planar_yuv.specs.Answers.{TexelOf}
 use Rattle.planar_yuv.specs.declared.PlanarYuvLayout.{PlanarYuvLayout}
 use Rattle.stretch_rect.specs.declared.Rgb.{Rgb}
-use Rattle.yuv_sets.specs.declared.YuvSet.{YuvSet}
+use Rattle.stretch_rect.specs.declared.sets.YuvSet.{YuvSet}
 use Rattle.stretch_rect.specs.Yuv.{rgb_of}
 
 -- ---- a macropixel is Y U Y V in YUY2 and U Y V Y in UYVY

@@ -1,8 +1,8 @@
 -- From a YUV sample to a colour in 16.16 fixed point over the integers, for any set of numbers.
 -- Assumes nothing.
-use Rattle.std.specs.Prelude.{ℕ, ◌+◌, ◌*◌, ◌/◌, ◌≤◌, ℤ, pos, ◌+ℤ◌, ◌-ℤ◌, ◌*ℤ◌}
+use Rattle.std.specs.Prelude.{List, [], ◌∷◌, get_or, ℕ, ◌+◌, ◌*◌, ◌/◌, ◌≤◌, ℤ, pos, ◌+ℤ◌, ◌-ℤ◌, ◌*ℤ◌}
 use Rattle.words.specs.Integers.{floor_div, clamp_to}
-use Rattle.yuv_sets.specs.declared.YuvSet.{YuvSet}
+use Rattle.stretch_rect.specs.declared.sets.YuvSet.{YuvSet}
 use Rattle.stretch_rect.specs.declared.Rgb.{Rgb}
 
 -- ---- the values that a set's own numbers define
@@ -65,7 +65,7 @@ module _ (s : YuvSet) (y u v : ℕ) where
   unfoldable pub rgb_of : Rgb
   rgb_of = record { r = clamp_to 255 red_rounded; g = clamp_to 255 green_rounded; b = clamp_to 255 blue_rounded }
 
--- ---- document 01's decimals
+-- ---- the decimals of bt601
 -- they are counted in units of 1 / 2000000
 abbrev pub decimal_unit : ℕ
 decimal_unit = 2000000
@@ -107,6 +107,22 @@ pub record RgbNear (unit slack : ℕ) (red green blue : ℤ) (p : Rgb) : Type 0 
 abbrev pub set_slack : ℕ
 set_slack = set_unit / 2 + set_unit / 16384
 
--- 1/2 + 1/500 of document 01's decimals
+-- 1/2 + 1/500 of the decimals of bt601
 abbrev pub decimal_slack : ℕ
 decimal_slack = decimal_unit / 2 + decimal_unit / 500
+
+-- each byte of a colour lies within 1/2 + 1/16384 of what a set's own numbers define of a sample, clamped
+abbrev pub NearOwn : YuvSet → (y u v : ℕ) → Rgb → Type 0
+NearOwn s y u v p = RgbNear set_unit set_slack (red_exact s y u v) (green_exact s y u v) (blue_exact s y u v) p
+
+-- each byte of a colour lies within 1/2 + 1/500 of what the decimals of bt601 define of a sample, clamped
+abbrev pub NearDecimals : (y u v : ℕ) → Rgb → Type 0
+NearDecimals y u v p = RgbNear decimal_unit decimal_slack (red_decimal y u v) (green_decimal y u v) (blue_decimal y u v) p
+
+-- ---- a colour as three bytes, in order
+abbrev pub rgb_list : Rgb → List ℕ
+rgb_list p = p.r ∷ p.g ∷ p.b ∷ []
+
+-- the colour that three bytes are
+abbrev pub colour_in : List ℕ → Rgb
+colour_in l = record { r = get_or l 0 0; g = get_or l 1 0; b = get_or l 2 0 }

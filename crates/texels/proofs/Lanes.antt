@@ -4,7 +4,7 @@ use Rattle.formats.specs.Codes.{A1R5G5B5, A4R4G4B4}
 use Rattle.formats.specs.Table.{parts_of, lane_of}
 use Rattle.channels.specs.Expansion.{expanded}
 use Rattle.texels.specs.Texels.{argb_of, decoded_of, colour_of, missing_colour}
-use Rattle.texels.specs.Words.{expanded_eight}
+use Rattle.texels.proofs.Words.{expanded_eight}
 
 -- a byte is its own expansion
 pub expanded_byte : (v : ℕ) → expanded 8 (v % 256) ≡ v % 256

@@ -1,5 +1,5 @@
--- What the contracts cite, and laws that other crates cite.
+-- What the contracts cite.
 pub mod Texels
-pub mod Bounds
-pub mod Words
 pub mod Restored
+pub mod Steps
+pub mod Blocks

@@ -1,6 +1,6 @@
 -- What a texel's word decodes to, what word a texel encodes to, and the exact values of its channels: all of it from the lane table.
 -- Assumes nothing.
-use Rattle.std.specs.Prelude.{◌≡◌, refl, Bool, true, false, List, ℕ, ◌+◌, ◌*◌, ◌-◌, ◌^◌, ◌<◌, leb, eqb}
+use Rattle.std.specs.Prelude.{Bool, true, false, List, ℕ, ◌+◌, ◌*◌, ◌-◌, ◌^◌, leb, eqb}
 use Rattle.std.specs.Float.{binary32}
 use Rattle.std.specs.Float.Ieee.{of_bits}
 use Rattle.words.specs.Little.{bytes}
@@ -124,19 +124,8 @@ exact_of f w = record {
   a = lane_value 255 (lane_of f alpha) w;
 }
 
--- a texel of bytes, each within 3/4 of its exact value: what every kind of source has to show
-pub record Stands (t : Texel) (x : Values) : Type 0 where
-  pub r_byte : t.r < 256
-  pub g_byte : t.g < 256
-  pub b_byte : t.b < 256
-  pub a_byte : t.a < 256
-  pub r_near : Near 3 (t.r over 1) x.r
-  pub g_near : Near 3 (t.g over 1) x.g
-  pub b_near : Near 3 (t.b over 1) x.b
-  pub a_near : Near 3 (t.a over 1) x.a
-
 -- ---- how far a stored number may lie from its exact value, in quarters: four times the step, and 3
--- document 01's step of a channel of n bits, 2^(8-n) - 1 (0, 3, 7, 15, 127 for 8, 6, 5, 4, 1), and 1/2 more for luminance
+-- the step of a channel of n bits, 2^(8-n) - 1 (0, 3, 7, 15, 127 for 8, 6, 5, 4, 1), and 1/2 more for luminance
 abbrev pub quarters : Channel → (n : ℕ) → ℕ
 quarters luminance n = 4 * (2 ^ (8 - n) - 1) + 5
 quarters red n = 4 * (2 ^ (8 - n) - 1) + 3
@@ -146,9 +135,6 @@ quarters alpha n = 4 * (2 ^ (8 - n) - 1) + 3
 quarters depth n = 0
 quarters stencil n = 0
 quarters padding n = 0
-
-pub quarters_read : (quarters red 8 ≡ 3) × (quarters luminance 8 ≡ 5) × (quarters green 6 ≡ 15) × (quarters red 5 ≡ 31) × (quarters alpha 4 ≡ 63) × (quarters alpha 1 ≡ 511)
-quarters_read = (refl, refl, refl, refl, refl, refl)
 
 -- the channels that have a meaning in a colour format: X has none, and no bound
 abbrev pub is_colour : Channel → Bool

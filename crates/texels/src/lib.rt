@@ -1,6 +1,7 @@
-// A texel as a byte for each channel, from the word that it is in its format: the RGB formats, and those that convert into A8R8G8B8
-// alone. specs/Texels has what a word decodes to and a texel encodes to, from the lane table, and the exact values of its channels.
-// Ported from pixel_convert.rs of athei/mtld3d (an altered version, see NOTICE).
+//! A texel as a byte for each channel, and the decoders that make one from a format's word: the RGB
+//! formats, and those that convert into A8R8G8B8 alone. specs/Texels has what a word decodes to and
+//! a texel encodes to, from the lane table, and the exact values of its channels.
+//! Ported from pixel_convert.rs of athei/mtld3d (an altered version, see NOTICE).
 #![tactic(auto, using(crate::proofs::Lanes::expanded_byte), unfolding(crate::specs::Texels::argb_of, crate::specs::Texels::decoded_of, crate::specs::Texels::colour_of, crate::specs::Texels::missing_colour, formats::specs::Table::lane_of, formats::specs::Table::parts_of))]
 
 ghost use Rattle.std.specs.Prelude.{◌≡◌, ◌+◌, ◌*◌, ◌≤◌, ◌<◌, ◌%◌, length, take};
@@ -8,23 +9,31 @@ ghost use Rattle.words.specs.Little.{number};
 ghost use Rattle.formats.specs.Codes.{R8G8B8, A8R8G8B8, X8R8G8B8, R5G6B5, X1R5G5B5, A1R5G5B5, A4R4G4B4, A8, A2B10G10R10, A8B8G8R8, X8B8G8R8, G16R16, A2R10G10B10, A16B16G16R16, L8, A8L8, V8U8, Q8W8V8U8, L16, A32B32G32R32F};
 ghost use Rattle.formats.specs.Table.{bytes_of};
 ghost use Rattle.formats.specs.Formats.{rgb_code, code_source_code, lane_source_code};
-ghost use Rattle.channels.specs.Expansion.{expanded};
 ghost use Rattle.channels.specs.Nearest.{rounded};
 ghost use Rattle.texels.specs.Texels.{argb_of, decoded_of};
 
 use formats::{CodeSource, LaneSource, RgbFormat};
 
-// A texel on its way between two formats: a byte for each channel.
+pub mod blocks;
+pub mod encode;
+
+pub use encode::encode_rgb_pixel;
+
+/// A texel on its way between two formats: a byte for each channel.
 #[derive(Clone, Copy)]
 pub struct Texel {
+    /// Red.
     pub r: u8,
+    /// Green.
     pub g: u8,
+    /// Blue.
     pub b: u8,
+    /// Alpha.
     pub a: u8,
 }
 
 impl Texel {
-    // The same colour with full alpha.
+    /// The same colour with full alpha.
     pub fn opaque(self) -> Texel
         ensures { result ≡ record { r = self.r; g = self.g; b = self.b; a = 255 } }
     {
@@ -44,8 +53,9 @@ impl Texel {
     }
 }
 
-// ---- decoding: a texel's word, by its format
+// ---- decoding: a texel from its word, a function for each format
 
+/// The texel of an A8R8G8B8 word.
 pub fn decode_a8r8g8b8(v: u32) -> Texel
     ensures { result ≡ decoded_of A8R8G8B8 v }
 {
@@ -59,7 +69,7 @@ fn decode_r8g8b8(v: u32) -> Texel
     decode_a8r8g8b8(v).opaque()
 }
 
-// Not one of `decode_argb`: green has a bit more, and there is no alpha.
+// Green has six bits, and there is no alpha.
 fn decode_r5g6b5(v: u16) -> Texel
     ensures { result ≡ decoded_of R5G6B5 v }
 {
@@ -71,7 +81,7 @@ fn decode_r5g6b5(v: u16) -> Texel
     }
 }
 
-// Sixteen bits at most: alpha of ALPHA bits at the top, and three colours of COLOUR bits.
+// A word of 16 bits at most: alpha of `ALPHA` bits at the top, and three colours of `COLOUR` bits.
 fn decode_argb<const ALPHA: u32, const COLOUR: u32>(v: u16) -> Texel
     requires widths { (0 < ALPHA) × (ALPHA ≤ 8) × (0 < COLOUR) × (COLOUR ≤ 8) }
     requires fits { ALPHA + 3 * COLOUR ≤ 16 }
@@ -129,7 +139,7 @@ fn decode_a8l8(v: u16) -> Texel
 }
 
 // The lower half of a word, a 16-bit code, as the nearest byte.
-#[tactic(auto, using(crate::specs::Words::sixteen))]
+#[tactic(auto, using(crate::proofs::Words::sixteen))]
 fn nearest16(v: u32) -> u8
     ensures { result ≡ rounded (255 * (v % 65536)) 65535 }
 {
@@ -169,7 +179,7 @@ fn decode_g16r16(v: u32) -> Texel
     }
 }
 
-#[tactic(auto, using(crate::specs::Words::sixteen), unfolding(crate::specs::Texels::decoded_of, crate::specs::Texels::colour_of, crate::specs::Texels::missing_colour, formats::specs::Table::lane_of, formats::specs::Table::parts_of))]
+#[tactic(auto, using(crate::proofs::Words::sixteen), unfolding(crate::specs::Texels::decoded_of, crate::specs::Texels::colour_of, crate::specs::Texels::missing_colour, formats::specs::Table::lane_of, formats::specs::Table::parts_of))]
 fn decode_l16(v: u16) -> Texel
     ensures { result ≡ decoded_of L16 v }
 {
@@ -200,7 +210,8 @@ fn decode_q8w8v8u8(v: u32) -> Texel
     }
 }
 
-// Four 16-bit channels, each the nearest byte. Two are read at a time, so that the compiler can take several texels at once.
+// Four 16-bit channels, each the nearest byte, read two at a time so that the compiler takes
+// several texels at once.
 fn decode_a16b16g16r16(px: &[u8]) -> Texel
     requires { 8 ≤ length px.now }
     ensures { result ≡ decoded_of A16B16G16R16 (number (take 8 px.now)) }
@@ -228,17 +239,14 @@ fn decode_a32b32g32r32f(px: &[u8]) -> Texel
     }
 }
 
-// A `match` here and where texels are written: a trait of formats would have an impl for each arm, and still this match, to choose one by
-// a format known at run time; in a table the decoders would need one type, and they take words of three.
-
-// That a texel's bytes are there each of these asks: the fact is of the length of what is lent, and since the format is known at run time
-// alone, no array type has its size.
+// ---- decoding: a texel from its bytes, by its format
 
 // The texel at the front of `px`, of an RGB format.
 #[tactic(auto, using(crate::proofs::Lanes::argb_1555, crate::proofs::Lanes::argb_4444), unfolding(formats::specs::Table::bytes_of, formats::specs::Table::parts_of))]
 fn decode_rgb(format: RgbFormat, px: &[u8]) -> Texel
     requires { bytes_of (rgb_code format) ≤ length px.now }
-    ensures { result ≡ decoded_of (rgb_code format) (number (take (bytes_of (rgb_code format)) px.now)) }
+    ensures { result
+        ≡ decoded_of (rgb_code format) (number (take (bytes_of (rgb_code format)) px.now)) }
 {
     match format {
         RgbFormat::R8G8B8 => decode_r8g8b8(words::le24(px)),
@@ -256,11 +264,13 @@ fn decode_rgb(format: RgbFormat, px: &[u8]) -> Texel
     }
 }
 
-// The same of a source of whole numbers.
+// The texel at the front of `px`, of a source of whole numbers.
 #[tactic(auto, unfolding(formats::specs::Table::bytes_of, formats::specs::Table::parts_of))]
 fn decode_code_source(format: CodeSource, px: &[u8]) -> Texel
     requires { bytes_of (code_source_code format) ≤ length px.now }
-    ensures { result ≡ decoded_of (code_source_code format) (number (take (bytes_of (code_source_code format)) px.now)) }
+    ensures { result
+        ≡ decoded_of (code_source_code format)
+        (number (take (bytes_of (code_source_code format)) px.now)) }
 {
     match format {
         CodeSource::A16B16G16R16 => decode_a16b16g16r16(px),
@@ -273,11 +283,13 @@ fn decode_code_source(format: CodeSource, px: &[u8]) -> Texel
     }
 }
 
-// The same of any format with lanes.
+/// The texel at the front of `px`, of any format with lanes.
 #[tactic(auto, unfolding(formats::specs::Table::bytes_of, formats::specs::Table::parts_of))]
 pub fn decode_pixel(format: LaneSource, px: &[u8]) -> Texel
     requires { bytes_of (lane_source_code format) ≤ length px.now }
-    ensures { result ≡ decoded_of (lane_source_code format) (number (take (bytes_of (lane_source_code format)) px.now)) }
+    ensures { result
+        ≡ decoded_of (lane_source_code format)
+        (number (take (bytes_of (lane_source_code format)) px.now)) }
 {
     match format {
         LaneSource::Rgb(rgb) => decode_rgb(rgb, px),

@@ -1,8 +1,58 @@
 -- Laws on what specs/Iterate.antt defines, which rest on laws there. Assumes nothing.
-use Rattle.std.proofs.Common.{◌≡◌, refl, List, ℕ, zero, suc, ◌+◌, ◌*◌, ◌/◌, ◌%◌, ◌<◌, length, sym, ap, ◌∙◌, subst, ⊎_elim, arith, not-suc-le-zero, zero-mul, suc-mul}
-use Rattle.std.proofs.Math.Arith.{digits_div, digits_mod}
-use Rattle.words.specs.Tests.{lt_or_eq}
-use Rattle.words.specs.Iterate.{iterate, iterate_more, iterate_keeps, iterate_add, iterate_same}
+use Rattle.std.specs.Prelude.{◌≡◌, refl, Bool, true, false, ℕ, zero, suc, ◌+◌, ◌<◌}
+use Rattle.std.proofs.Common.{ap, ◌∙◌, ⊎_elim, arith, not-suc-le-zero, add-suc, add-zero, add-one, List, length, sym, subst}
+use Rattle.std.proofs.lemmas.Bool.{and_parts, and_right}
+use Rattle.words.proofs.TestsLaws.{lt_or_eq}
+use Rattle.words.specs.Iterate.{iterate, all}
+
+-- ---- steps
+pub iterate_zero : {A : Type 0} (f : ℕ → A → A) (a : A) → iterate f 0 a ≡ a
+unfolding iterate
+iterate_zero f a = refl
+
+pub iterate_more : {A : Type 0} (f : ℕ → A → A) (n : ℕ) (a : A) → iterate f (n + 1) a ≡ f n (iterate f n a)
+unfolding iterate
+iterate_more f n a = rw add-one refl
+
+-- what every step keeps, the whole keeps
+pub iterate_keeps : {A : Type 0} (P : A → Type 0) (f : ℕ → A → A) (n : ℕ) → ((k : ℕ) → k < n → (a : A) → P a → P (f k a)) → (a : A) → P a → P (iterate f n a)
+unfolding iterate
+iterate_keeps P f zero h a p = p
+iterate_keeps P f (suc n) h a p = h n (omega arith) (iterate f n a) (iterate_keeps P f n (λ k l. h k (omega arith)) a p)
+
+-- the first a steps, and then the b others
+pub iterate_add : {A : Type 0} (f : ℕ → A → A) (a b : ℕ) (x : A) → iterate f (a + b) x ≡ iterate (λ k. f (a + k)) b (iterate f a x)
+unfolding iterate
+iterate_add f a zero x = rw add-zero refl
+iterate_add f a (suc b) x = rw add-suc (ap (f (a + b)) (iterate_add f a b x))
+
+-- steps that agree below n
+pub iterate_same : {A : Type 0} (f g : ℕ → A → A) (n : ℕ) (a : A) → ((k : ℕ) → k < n → (b : A) → f k b ≡ g k b) → iterate f n a ≡ iterate g n a
+unfolding iterate
+iterate_same f g zero a h = refl
+iterate_same f g (suc n) a h = h n (omega arith) (iterate f n a) ∙ ap (g n) (iterate_same f g n a (λ k l. h k (omega arith)))
+
+-- ---- tests
+pub all_true : (p : ℕ → Bool) (n : ℕ) → ((k : ℕ) → k < n → p k ≡ true) → all p n ≡ true
+unfolding all
+all_true p zero h = refl
+all_true p (suc n) h = rw (all_true p n (λ k lt. h k (omega arith)), h n (omega arith)) refl
+
+pub all_at : (p : ℕ → Bool) (n : ℕ) → all p n ≡ true → (k : ℕ) → k < n → p k ≡ true
+unfolding all
+all_at p zero h k lt = absurd (not-suc-le-zero lt)
+all_at p (suc n) h k lt =
+    ⊎_elim (λ less. all_at p n (and_parts (all p n) (p n) h).0 k less)
+    (λ same. rw same (and_parts (all p n) (p n) h).1)
+    (lt_or_eq k n lt)
+
+pub all_false : (p : ℕ → Bool) (n k : ℕ) → k < n → p k ≡ false → all p n ≡ false
+unfolding all
+all_false p zero k lt h = absurd (not-suc-le-zero lt)
+all_false p (suc n) k lt h =
+    ⊎_elim (λ less. rw (all_false p n k less h) refl)
+    (λ same. and_right (all p n) (p n) (rw same at h))
+    (lt_or_eq k n lt)
 
 -- one turn of a loop
 pub iterate_step : {A : Type 0} (f : ℕ → A → A) (i : ℕ) (a₀ a a' : A) → a ≡ iterate f i a₀ → a' ≡ f i a → a' ≡ iterate f (i + 1) a₀
@@ -24,15 +74,3 @@ iterate_makes I P f (suc n) m lt inv make keep a i =
 
 pub iterate_length : {A : Type 0} (f : ℕ → List A → List A) → ((k : ℕ) (l : List A) → length (f k l) ≡ length l) → (n : ℕ) (l : List A) → length (iterate f n l) ≡ length l
 iterate_length f same n l = iterate_keeps (λ m. length m ≡ length l) f n (λ k lt m e. same k m ∙ e) l refl
-
--- a loop in a loop as one run, whose step n is step n % h of turn n / h
-pub iterate_flat : {A : Type 0} (g : ℕ → ℕ → A → A) (h d : ℕ) (a : A) → iterate (λ z. iterate (g z) h) d a ≡ iterate (λ n. g (n / h) (n % h)) (d * h) a
-unfolding iterate
-iterate_flat g h zero a = rw zero-mul refl
-iterate_flat g h (suc d) a =
-    ap (iterate (g d) h) (iterate_flat g h d a)
-    ∙ sym
-    (ap (λ (n : ℕ). iterate (λ n. g (n / h) (n % h)) n a) (suc-mul d h)
-    ∙ iterate_add (λ n. g (n / h) (n % h)) (d * h) h a
-    ∙ iterate_same (λ k. g ((d * h + k) / h) ((d * h + k) % h)) (g d) h (iterate (λ n. g (n / h) (n % h)) (d * h) a)
-    (λ k l b. rw (digits_div d l, digits_mod d l) refl))

@@ -2,6 +2,7 @@
 
 use crate::plant_room::{Camera, HEIGHT, WIDTH, depth_of, metres_of};
 use crate::png::{Picture, positions};
+use crate::text;
 
 /// The largest 24-bit code.
 const MAX_CODE: f64 = 16_777_215.0;
@@ -10,6 +11,7 @@ const MAX_CODE: f64 = 16_777_215.0;
 const PADDING: usize = 36;
 
 const ORANGE: [u8; 3] = [255, 120, 0];
+const DARK: [u8; 3] = [24, 24, 24];
 
 /// A picture of packed depth, `pitch` bytes a row.
 pub struct DepthPicture {
@@ -65,8 +67,8 @@ impl DepthPicture {
     }
 
     /// The picture in greys, near ones bright, with lines where a surface bends, and the two ends of
-    /// a clearance.
-    pub fn drawn(&self, ends: [(usize, usize); 2]) -> Picture {
+    /// a clearance, which is written beside them in metres.
+    pub fn drawn(&self, ends: [(usize, usize); 2], clearance: f64) -> Picture {
         let all = || positions(WIDTH, HEIGHT).map(|at| self.metres(at));
         let near = all().fold(f64::INFINITY, f64::min);
         let far = all().fold(0.0, f64::max);
@@ -76,7 +78,7 @@ impl DepthPicture {
             let line = (30.0 * metres * self.bend(x, y)).min(0.55);
             [(grey * (1.0 - line)) as u8; 3]
         });
-        mark(&mut picture, ends);
+        mark(&mut picture, ends, clearance);
         picture
     }
 
@@ -92,44 +94,21 @@ impl DepthPicture {
     }
 }
 
-/// Marks the two ends with crosses and letters, and dashes between them.
-fn mark(picture: &mut Picture, ends: [(usize, usize); 2]) {
+/// Marks the two ends with crosses and letters, dashes between them, and writes the clearance above.
+fn mark(picture: &mut Picture, ends: [(usize, usize); 2], clearance: f64) {
     let [(ax, ay), (bx, by)] = ends.map(|(x, y)| (x as f64, y as f64));
     for step in (0..=400).filter(|step| step / 16 % 2 == 0) {
         let t = f64::from(step) / 400.0;
         let (x, y) = (ax + (bx - ax) * t, ay + (by - ay) * t);
-        dot(picture, x as i64, y as i64, 2);
+        picture.fill([x as i64, y as i64], [2, 2], ORANGE);
     }
-    for ((x, y), (letter, above)) in ends.into_iter().zip([(A, 44), (B, 34)]) {
+    for ((x, y), (letter, above)) in ends.into_iter().zip([("A", 44), ("B", 34)]) {
         let (x, y) = (x as i64, y as i64);
-        for arm in -6..=6 {
-            dot(picture, x + arm, y, 2);
-            dot(picture, x, y + arm, 2);
-        }
-        draw(picture, letter, x - 6, y - above);
+        picture.fill([x - 6, y], [14, 2], ORANGE);
+        picture.fill([x, y - 6], [2, 14], ORANGE);
+        text::write(picture, letter, [x - 6, y - above], 3, ORANGE);
     }
-}
-
-/// Letters as rows of five bits.
-const A: [u8; 7] = [
-    0b01110, 0b10001, 0b10001, 0b11111, 0b10001, 0b10001, 0b10001,
-];
-const B: [u8; 7] = [
-    0b11110, 0b10001, 0b10001, 0b11110, 0b10001, 0b10001, 0b11110,
-];
-
-/// Draws a letter, each of its points as 3 x 3 pixels.
-fn draw(picture: &mut Picture, letter: [u8; 7], left: i64, top: i64) {
-    for (y, row) in (0..).zip(letter) {
-        for x in (0..5).filter(|x| row >> (4 - x) & 1 == 1) {
-            dot(picture, left + 3 * x, top + 3 * y, 3);
-        }
-    }
-}
-
-/// Sets a square of pixels.
-fn dot(picture: &mut Picture, left: i64, top: i64, size: i64) {
-    for i in 0..size * size {
-        picture.set(left + i % size, top + i / size, ORANGE);
-    }
+    let middle = [((ax + bx) / 2.0) as i64, ay.min(by) as i64 - 62];
+    let said = format!("A to B {clearance:.4} m");
+    text::plate(picture, &said, middle, 2, [DARK, ORANGE]);
 }

@@ -3,7 +3,7 @@
 
 use wentuqis::Refused;
 use wentuqis::format::{D3DFMT_NV12, D3DFMT_R5G6B5, D3DFMT_YUY2};
-use wentuqis::pixel_convert::{ConvertRegion, YuvSet, try_convert_region_with_set};
+use wentuqis::pixel_convert::{Region, Side, YuvSet, convert};
 use wentuqis::planar_yuv::planar_yuv_layout_from_pitch;
 
 use crate::png::{Picture, positions};
@@ -168,17 +168,17 @@ impl Screen {
 
     /// Converts a frame, by the set of its standard, onto the whole screen.
     pub fn show(&mut self, frame: &Frame) -> Result<(), Refused> {
-        let region = ConvertRegion {
-            width: WIDTH as u32,
-            height: HEIGHT as u32,
-            src_pitch: frame.pitch,
-            dst_pitch: self.pitch,
-            src_slice_pitch: frame.pitch * HEIGHT,
-            dst_slice_pitch: self.pitch * HEIGHT,
-            depth: 1,
-            ..ConvertRegion::default()
+        let rows = |pitch| Side {
+            pitch,
+            slice_pitch: pitch * HEIGHT,
+            ..Side::default()
         };
-        try_convert_region_with_set(
+        let region = Region {
+            source: rows(frame.pitch),
+            destination: rows(self.pitch),
+            ..Region::new(WIDTH as u32, HEIGHT as u32)
+        };
+        convert(
             &mut self.bytes,
             self.format,
             &frame.bytes,

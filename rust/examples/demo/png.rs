@@ -35,6 +35,27 @@ impl Picture {
         }
     }
 
+    /// Sets a rectangle of pixels.
+    pub fn fill(&mut self, [left, top]: [i64; 2], [width, height]: [i64; 2], colour: [u8; 3]) {
+        for y in top..top + height {
+            for x in left..left + width {
+                self.set(x, y, colour);
+            }
+        }
+    }
+
+    /// The mean colour of a rectangle of pixels inside the picture.
+    pub fn mean(&self, [left, top]: [usize; 2], [width, height]: [usize; 2]) -> [f64; 3] {
+        let mut sum = [0.0; 3];
+        for (x, y) in positions(width, height) {
+            let pixel = &self.rgb[((top + y) * self.width + left + x) * 3..][..3];
+            for (total, channel) in sum.iter_mut().zip(pixel) {
+                *total += f64::from(*channel);
+            }
+        }
+        sum.map(|total| total / (width * height) as f64)
+    }
+
     /// Writes the picture as a PNG file.
     pub fn write(&self, path: &Path) -> io::Result<()> {
         let mut header = Vec::new();

@@ -23,6 +23,15 @@ const FOOT: f64 = 306.0;
 const BODY: f64 = 62.0;
 const WALL: f64 = 5.0;
 
+/// Left top and size, in pixels, of a spot of the liquid beside its middle, where light passes about
+/// the path of its shade.
+pub const SPOT: ([usize; 2], [usize; 2]) = ([172, 206], [8, 24]);
+
+/// The same inside each shade of the panel.
+pub fn shade_spots() -> [([usize; 2], [usize; 2]); 6] {
+    std::array::from_fn(|index| ([362, (61.0 + 40.5 * index as f64) as usize], [44, 20]))
+}
+
 /// The picture at a point, in pixels from the top left.
 fn colour(x: f64, y: f64) -> Colour {
     if let Some(card) = panel(x, y) {

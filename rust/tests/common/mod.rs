@@ -176,3 +176,29 @@ impl Numbers {
         self.0 % bound
     }
 }
+
+/// A small region with random numbers; with `extremes`, one number in forty, but of the source pitch, is
+/// among the largest of 64 bits.
+pub fn random_region(numbers: &mut Numbers, extremes: bool) -> ConvertRegion {
+    let src_pitch = 2 * numbers.below(20) as usize;
+    let mut small = |bound| {
+        if extremes && numbers.below(40) == 0 {
+            usize::MAX - numbers.below(4) as usize
+        } else {
+            numbers.below(bound) as usize
+        }
+    };
+    ConvertRegion {
+        src_x: small(4) as u32,
+        src_y: small(4) as u32,
+        dst_x: small(4) as u32,
+        dst_y: small(4) as u32,
+        width: (small(6) as u32).min(6),
+        height: (small(6) as u32).min(6),
+        src_pitch,
+        dst_pitch: small(40),
+        src_slice_pitch: src_pitch.wrapping_mul(small(10)),
+        dst_slice_pitch: small(200),
+        depth: small(3).min(3),
+    }
+}

@@ -1,6 +1,6 @@
 -- `formats::bytes_per_texel` meets its contract: the table's rule is a test at each of its entries, and above it no code has lanes. Assumes nothing.
 use Rattle.std.proofs.Common.{Bool, List, [], ◌∷◌, ℕ, arith, eqb, eqb→eq, get_or}
-use Rattle.words.specs.Computed.{entry_at}
+use Rattle.words.proofs.ComputedLaws.{entry_at}
 use Rattle.formats.specs.Table.{bytes_of, parts_of}
 use Rattle.formats.proofs.bytes_per_texel.Goals as goal
 

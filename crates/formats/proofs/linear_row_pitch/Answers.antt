@@ -1,6 +1,7 @@
 -- `formats::linear_row_pitch` meets its contract: of the multiples of 4 one alone is less than 4 above the width. Assumes nothing.
 use Rattle.std.proofs.Common.{◌≡◌, sym, subst, arith}
-use Rattle.words.specs.Multiples.{Raised, raised, raised_is}
+use Rattle.words.specs.Multiples.{Raised, raised}
+use Rattle.words.proofs.MultiplesLaws.{raised_is}
 use Rattle.formats.specs.Classes.{linear_row_pitch}
 use Rattle.formats.proofs.linear_row_pitch.Goals as goal
 

@@ -1,6 +1,7 @@
 -- `texels::decode_a16b16g16r16` meets its contract: each half of a word of four bytes is the lane of the table. Assumes nothing.
 use Rattle.std.proofs.Common.{◌≡◌, ap, ◌∙◌, subst, ℕ, ◌+◌, ◌*◌, ◌/◌, ◌%◌, ◌^◌, ◌<◌, arith, take, drop, length-take-le}
-use Rattle.words.specs.Little.{Small, number, number_rest, number_split, number_lt, small_list, small_take}
+use Rattle.words.proofs.LittleLaws.{Small, number_rest, number_split, number_lt, small_list, small_take}
+use Rattle.words.specs.Little.{number}
 use Rattle.formats.specs.Table.{lane_of, parts_of}
 use Rattle.channels.specs.Nearest.{rounded}
 use Rattle.texels.specs.Texels.{decoded_of, colour_of}

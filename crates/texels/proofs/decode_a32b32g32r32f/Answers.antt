@@ -1,12 +1,12 @@
 -- `texels::decode_a32b32g32r32f` meets its contract: each word of four bytes is the lane of the table. Assumes nothing.
 use Rattle.std.proofs.Common.{sym, ap, ◌∙◌, ℕ, arith}
-use Rattle.words.specs.Little.{Small, number_rest, small_list}
+use Rattle.words.proofs.LittleLaws.{Small, number_rest, small_list}
 use Rattle.std.specs.Float.{binary32}
 use Rattle.std.specs.Float.Ieee.{of_bits}
 use Rattle.channels.specs.Exact.{float_value}
 use Rattle.formats.specs.Table.{lane_of, parts_of}
 use Rattle.texels.specs.Texels.{decoded_of, colour_of, nearest_byte}
-use Rattle.texels.specs.Words.{byte_lane}
+use Rattle.texels.proofs.Words.{byte_lane}
 use Rattle.texels.proofs.decode_a32b32g32r32f.Goals as goal
 
 pub returns : goal.returns

@@ -1,7 +1,7 @@
 -- `depth_texture::PlaneLayout::check_buffers` meets its contract: the first test that fails gives the number. Assumes nothing.
 use Rattle.std.proofs.Common.{◌≡◌, sym, ◌∙◌, true}
 use Rattle.depth_texture.specs.Layouts.{stands}
-use Rattle.depth_texture.specs.Refusals.{stands_holds}
+use Rattle.depth_texture.proofs.Refusals.{stands_holds}
 use Rattle.depth_texture.proofs.PlaneLayout.check_buffers.Goals as goal
 
 pub packed_holds-requires : goal.packed_holds-requires

@@ -2,8 +2,8 @@
 use Rattle.std.proofs.Common.{◌≡◌, Bool, ℕ, eqb, sym, ap, ◌∙◌, inl, inr, max, arith}
 use Rattle.std.specs.Int.Count.{ones}
 use Rattle.depth_texture.specs.Layouts.{is_power_of_two}
-use Rattle.depth_texture.specs.Powers.{counted}
-use Rattle.depth_texture.specs.Refusals.{zero_width, zero_height, no_power, over, made}
+use Rattle.depth_texture.proofs.Powers.{counted}
+use Rattle.depth_texture.proofs.Refusals.{zero_width, zero_height, no_power, over, made}
 use Rattle.depth_texture.proofs.Library.{next_raised}
 use Rattle.depth_texture.proofs.PlaneLayout.new.Goals as goal
 

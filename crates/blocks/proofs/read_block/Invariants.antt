@@ -1,6 +1,0 @@
-use Rattle.formats.specs.Formats.{lane_source_code}
-use Rattle.blocks.specs.Blocks.{BlockRead}
-use Rattle.blocks.proofs.read_block.Given as goal
-
-abbrev pub invariant-loop-word : goal.invariant-loop-word
-invariant-loop-word l = BlockRead l.src (lane_source_code l.format) l.step l.from l.word-index l.word-items l.off

@@ -1,2 +1,0 @@
--- Blocks of A8R8G8B8 words.
-pub mod Blocks

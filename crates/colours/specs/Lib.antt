@@ -1,3 +1,0 @@
--- What the contracts cite, and laws that other crates cite.
-pub mod Color
-pub mod LaneCodes

@@ -1,0 +1,6 @@
+use Rattle.std.specs.Prelude.{◌+◌}
+use Rattle.pixel_convert.specs.Gathering.{GathersBytes}
+use Rattle.pixel_convert.proofs.pairs.gather_words.Given as goal
+
+abbrev pub invariant-loop-i : goal.invariant-loop-i
+invariant-loop-i l = GathersBytes l.src l.from (l.from + 1) 2 l.i l.out

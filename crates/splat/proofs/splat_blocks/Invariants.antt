@@ -1,6 +1,0 @@
-use Rattle.std.specs.Prelude.{◌*◌}
-use Rattle.splat.proofs.Splats.{Done}
-use Rattle.splat.proofs.splat_blocks.Given as goal
-
-abbrev pub invariant-loop-turn : goal.invariant-loop-turn
-invariant-loop-turn l = Done l.pixel l.dst (l.turn * 48)

@@ -1,2 +1,0 @@
--- What the contracts cite, and laws that other crates cite.
-pub mod Splat
