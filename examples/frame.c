@@ -55,8 +55,8 @@ static bool show(uint8_t *screen, size_t screen_len, size_t screen_pitch, const 
 {
     static const WentuqisYuvSet set = WENTUQIS_BT709;
     const WentuqisRegion region = {
-        .source = {.pitch = layout->pitch, .slice_pitch = layout->pitch * layout->luma_rows},
-        .destination = {.pitch = screen_pitch},
+        .source = {.pitch = (int64_t)layout->pitch, .slice_pitch = layout->pitch * layout->luma_rows},
+        .destination = {.pitch = (int64_t)screen_pitch},
         .depth = 1,
         .width = WIDTH,
         .height = HEIGHT,

@@ -21,14 +21,18 @@
  * A conversion takes time that grows with width * height * depth, whatever the lengths of the buffers: a pitch may be
  * 0, and all rows then lie in one place.
  *
- * Where things lie. Lengths, pitches and offsets are in bytes, numbers are little-endian, divisions round down.
- *   - Texel of a side at slice z, row y, column x, where y and x count from the side's own: z * slice_pitch +
+ * Where things lie. Lengths, pitches and offsets are in bytes, numbers are little-endian, divisions round down, and
+ * sums and products are true whole numbers: none wraps.
+ *   - Texel of a side at slice z, row y, column x, where y and x count from the side's own: start + z * slice_pitch +
  *     (side.y + y) * pitch + (side.x + x) * (bytes of a texel). A packed YUV texel needs its whole macropixel of four
- *     bytes, at z * slice_pitch + (side.y + y) * pitch + (side.x + x) / 2 * 4: Y U Y V in YUY2, U Y V Y in UYVY, the
- *     first Y for the even column.
- *   - Texel of a planar frame: Y at y * pitch + x. With B = pitch * luma_rows, NV12 has U at
+ *     bytes, at start + z * slice_pitch + (side.y + y) * pitch + (side.x + x) / 2 * 4: Y U Y V in YUY2, U Y V Y in UYVY,
+ *     the first Y for the even column. A texel with a byte below 0 is outside, as one with a byte past the end.
+ *   - A picture stored bottom row first has a negative pitch, and its start is the first byte of its top row, which is
+ *     stored last: wentuqis_bottom_up makes such a side.
+ *   - Texel of a planar frame, all of which counts from the side's start: Y at y * pitch + x. With
+ *     B = pitch * luma_rows, NV12 has U at
  *     B + y / 2 * pitch + x / 2 * 2 and V next; YV12 has V at B + y / 2 * (pitch / 2) + x / 2 and U later by
- *     chroma_rows * (pitch / 2). The pitch is even, at most 16384; chroma rows are half the luma rows, rounded up, and
+ *     chroma_rows * (pitch / 2). The pitch is above 0, even, at most 16384; chroma rows are half the luma rows, rounded up, and
  *     both together at most 16384; YV12 has an even number of luma rows. In a conversion there are
  *     source.slice_pitch / source.pitch luma rows (the chroma rows are not counted), and a row has as many texels as
  *     the pitch has bytes.
@@ -152,7 +156,7 @@ enum {
     WENTUQIS_ACCEPTED = 0,
     /* wentuqis_convert_region, wentuqis_convert_region_with_set */
     WENTUQIS_UNSUPPORTED_PAIR = 1,    /* wentuqis_can_convert is false for the two formats */
-    WENTUQIS_PLANAR_SHAPE = 2,        /* planar source: depth not 1, pitch 0, or slice pitch no multiple of it */
+    WENTUQIS_PLANAR_SHAPE = 2,        /* planar source: depth not 1, pitch not above 0, slice pitch no multiple of it */
     WENTUQIS_SOURCE_OUTSIDE = 3,      /* a texel outside src or its planar layout, or a column or row past 32 bits */
     WENTUQIS_DESTINATION_OUTSIDE = 4, /* a texel outside dst, or a column or row past 32 bits */
     /* wentuqis_d3dcolor_fill_pixel_bytes */
@@ -182,11 +186,13 @@ static inline const char *wentuqis_refusal_text(uint32_t reply)
     case WENTUQIS_UNSUPPORTED_PAIR:
         return "unsupported pair: the two formats do not convert";
     case WENTUQIS_PLANAR_SHAPE:
-        return "planar shape: depth must be 1, the source pitch not 0, its slice pitch pitch times luma rows";
+        return "planar shape: depth must be 1, the source pitch above 0 (a frame is not stored bottom row first), "
+               "its slice pitch pitch times luma rows";
     case WENTUQIS_SOURCE_OUTSIDE:
-        return "source outside: a texel of the region lies outside the source or its planar layout";
+        return "source outside: a texel of the region lies past the source's end, below its byte 0, or outside its "
+               "planar layout";
     case WENTUQIS_DESTINATION_OUTSIDE:
-        return "destination outside: a texel of the region lies outside the destination";
+        return "destination outside: a texel of the region lies past the destination's end or below its byte 0";
     case WENTUQIS_NO_FILL:
         return "no fill: the format has none";
     case WENTUQIS_ZERO_SIZE:
@@ -214,10 +220,12 @@ static inline const char *wentuqis_refusal_text(uint32_t reply)
     }
 }
 
-/* Where the texels of a region lie in one of the two buffers: bytes from a row to the next and from a slice to the
- * next, and the column and row of the first texel. Of a planar source the slice pitch is pitch * luma rows. */
+/* Where the texels of a region lie in one of the two buffers: the first byte of row 0 of the picture, bytes from a row to
+ * the next, negative where rows are stored bottom row first, and from a slice to the next, and the column and row of
+ * the first texel. Of a planar source the slice pitch is pitch * luma rows. */
 typedef struct WentuqisSide {
-    size_t pitch;
+    uint64_t start;
+    int64_t pitch;
     size_t slice_pitch;
     uint32_t x;
     uint32_t y;
@@ -232,6 +240,16 @@ typedef struct WentuqisRegion {
     uint32_t width;
     uint32_t height;
 } WentuqisRegion;
+
+/* The side of a picture of so many rows of row_bytes bytes each, padding included, that is stored bottom row first from
+ * the buffer's first byte on. */
+static inline WentuqisSide wentuqis_bottom_up(uint32_t row_bytes, uint32_t rows)
+{
+    const uint64_t last = rows == 0 ? 0 : rows - 1;
+    const WentuqisSide side = {row_bytes * last, -(int64_t)row_bytes, 0, 0, 0};
+
+    return side;
+}
 
 /* The numbers of a conversion from YUV: luma_gain and the four from v_to_red to u_to_blue are 0 to 262143, luma_offset
  * is 0 to 4194303, all in 65536ths; chroma_centre is 255 or 256, in halves. */

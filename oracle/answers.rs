@@ -1,19 +1,22 @@
 //! What the original answers to a call, for those who record its answers and those who compare. It
 //! does not decide where the port departs from it (docs/DIFFERENCES.md): rules.rs and stills.rs
 //! answer for the pairs that it refuses and the port converts, rules.rs and sets.rs for sets other
-//! than BT601, and the C compiler for the binary16 codes that are others.
+//! than BT601, rules.rs and by_texel.rs or sets.rs for regions that it has not, with a start or a
+//! negative pitch, and the C compiler for the binary16 codes that are others.
 #![allow(dead_code)]
 
 use original::{
     depth_texture::{PackedDepth, PlaneLayout},
-    pixel_convert::{self, ConvertRegion},
+    pixel_convert,
     planar_yuv::{self, PlanarYuvLayout},
 };
 
 use crate::{
+    by_texel,
     calls::{ConvertCall, DepthCall},
-    common::{Planes, Region},
-    rules, sets, stills,
+    common::{FlatRegion, Planes, Region, flat, is_upright, originals},
+    rules::{self, AnyRegion},
+    sets, stills,
 };
 
 /// Whether a pair of formats converts.
@@ -30,17 +33,24 @@ pub fn effort(region: &Region) -> u128 {
 }
 
 /// Whether it can be asked of a conversion with this reply by the rules: it refuses before it
-/// looks at a texel, or no sum of its wraps and it `ends` soon. The stand-in looks at no texel of a
-/// region that is empty or that it refuses.
+/// looks at a texel, or no sum of its wraps and it `ends` soon. The rules, where they alone answer, look
+/// at no texel of a region that is empty or that they refuse.
 pub fn can_convert(call: &ConvertCall, reply: u32, ends: impl FnOnce() -> bool) -> bool {
-    let is_empty = rules::is_empty(&call.region);
-    let fits = || is_empty || call.conversion().sums_fit();
-    let at_once = matches!(reply, 1 | 2 | 15) || original::BY_RULES && (is_empty || reply != 0);
+    let is_empty = AnyRegion::from(&call.region).is_empty();
+    let is_upright = is_upright(&call.region);
+    let alone = original::BY_RULES || !is_upright;
+    let fits = || is_empty || !is_upright || call.conversion().sums_fit();
+    let at_once = matches!(reply, 1 | 2 | 15) || alone && (is_empty || reply != 0);
     at_once || fits() && ends()
 }
 
 /// Whether the rules beyond the original answer to a conversion in its place.
 pub fn by_rules(call: &ConvertCall) -> bool {
+    beyond(call) || !is_upright(&call.region)
+}
+
+/// Whether they do for its formats or for its set.
+pub fn beyond(call: &ConvertCall) -> bool {
     rules::original_refuses(call.src_format, call.dst_format) || has_other_set(call)
 }
 
@@ -57,14 +67,20 @@ pub fn convert(call: &ConvertCall) -> (bool, Vec<u8>) {
     if has_other_set(call) {
         return sets::convert(call);
     }
+    if is_upright(&call.region) {
+        return convert_flat(call, &flat(&call.region));
+    }
+    if rules::is_yuv(call.src_format) {
+        return sets::convert(call);
+    }
+    by_texel::convert(call)
+}
+
+/// The same of a flat region in the place of the call's.
+pub fn convert_flat(call: &ConvertCall, flat: &FlatRegion) -> (bool, Vec<u8>) {
     let mut dst = call.dst.clone();
-    let accepted = pixel_convert::convert_region(
-        &mut dst,
-        call.dst_format,
-        &call.src,
-        call.src_format,
-        &ConvertRegion::from(&call.region),
-    );
+    let (to, from) = (call.dst_format, call.src_format);
+    let accepted = pixel_convert::convert_region(&mut dst, to, &call.src, from, &originals(flat));
     (accepted, dst)
 }
 

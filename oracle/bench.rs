@@ -30,14 +30,14 @@ use std::{
     time::{Duration, Instant},
 };
 
-use common::{XorShift, YuvSet, random_bytes, random_units, whole_frame};
+use common::{XorShift, YuvSet, flat, originals, random_bytes, random_units, whole_frame};
 use original::{
     convert::{f32_to_f16_bits, splat_pixel_pattern},
     depth_texture::{PackedDepth, PlaneLayout},
-    pixel_convert::{ConvertRegion, convert_region},
+    pixel_convert::convert_region,
     stretch_rect::yuv_to_rgb8,
 };
-use rules::{A8R8G8B8, BT709, FORMATS, Format, Kind, Texel, named};
+use rules::{A8R8G8B8, AnySide, BT709, FORMATS, Format, Kind, Texel, named};
 
 const WIDTH: u32 = 4096;
 const HEIGHT: u32 = 2160;
@@ -81,6 +81,13 @@ const CONVERSIONS: [Pair; 8] = [
 
 /// The conversions of a frame with a set of YUV numbers, BT.709; the original's is BT.601.
 const SET_CONVERSIONS: [Pair; 2] = [("YUY2", "A8R8G8B8"), ("NV12", "A8R8G8B8")];
+
+/// The conversions to a picture that is stored bottom row first, which the original has not.
+const TURNED_CONVERSIONS: [Pair; 3] = [
+    ("A8R8G8B8", "X8R8G8B8"),
+    ("R5G6B5", "A8R8G8B8"),
+    ("NV12", "A8R8G8B8"),
+];
 
 /// The conversions in short rows.
 const SHORT_CONVERSIONS: [Pair; 12] = [
@@ -310,6 +317,8 @@ enum Work {
     ConvertSmooth(&'static Format, &'static Format),
     /// The same of a frame with BT.709.
     ConvertWithSet(&'static Format, &'static Format),
+    /// The same of a frame to a picture that is stored bottom row first.
+    ConvertTurned(&'static Format, &'static Format),
     /// Of a depth format's name and code.
     Unpack(&'static str, u32),
     Pack(&'static str, u32),
@@ -329,6 +338,9 @@ impl Work {
             Self::ConvertWithSet(from, to) => {
                 format!("{} to {} BT.709, original BT.601", from.name, to.name)
             }
+            Self::ConvertTurned(from, to) => {
+                format!("{} to {}, bottom row first", from.name, to.name)
+            }
             Self::Unpack(name, _) => format!("{name} unpack"),
             Self::Pack(name, _) => format!("{name} pack"),
             Self::Splat(length) => format!("splat of {length}"),
@@ -340,9 +352,12 @@ impl Work {
 
     fn measure(&self) -> Numbers {
         match *self {
-            Self::Convert(from, to, row) => convert(&frame(from), from, to, row, None),
-            Self::ConvertSmooth(from, to) => convert(&smooth(from), from, to, WIDTH, None),
-            Self::ConvertWithSet(from, to) => convert(&frame(from), from, to, WIDTH, Some(BT709)),
+            Self::Convert(from, to, row) => convert(&frame(from), from, to, row, Ours::Same),
+            Self::ConvertSmooth(from, to) => convert(&smooth(from), from, to, WIDTH, Ours::Same),
+            Self::ConvertWithSet(from, to) => {
+                convert(&frame(from), from, to, WIDTH, Ours::With(BT709))
+            }
+            Self::ConvertTurned(from, to) => convert(&frame(from), from, to, WIDTH, Ours::Turned),
             Self::Unpack(_, code) => unpack(code),
             Self::Pack(_, code) => pack(code),
             Self::Splat(length) => splat(length),
@@ -389,6 +404,7 @@ impl Work {
 fn works() -> Vec<Work> {
     let convert = |(from, to), row| Work::Convert(named(from), named(to), row);
     let with_set = |(from, to)| Work::ConvertWithSet(named(from), named(to));
+    let turned = |(from, to)| Work::ConvertTurned(named(from), named(to));
     let mut works = Vec::new();
     for from in rgb_formats().chain(yuv_formats()) {
         works.extend(rgb_formats().map(|to| Work::Convert(from, to, WIDTH)));
@@ -398,6 +414,7 @@ fn works() -> Vec<Work> {
     // Without the port the original would do the same work twice, here and with the samples below.
     if cfg!(port) {
         works.extend(SET_CONVERSIONS.map(with_set));
+        works.extend(TURNED_CONVERSIONS.map(turned));
     }
     works.extend(SHORT_CONVERSIONS.map(|pair| convert(pair, SHORT)));
     for (name, code) in DEPTHS {
@@ -496,13 +513,14 @@ fn frame(format: &Format) -> Vec<u8> {
 fn smooth(format: &Format) -> Vec<u8> {
     let mut frame = vec![0; frame_length(format)];
     let region = whole_frame(WIDTH, HEIGHT, WIDTH as usize * format.bytes, 0);
+    let source = AnySide::from(&region.source);
     for (row, column) in (0..HEIGHT).flat_map(|row| (0..WIDTH).map(move |column| (row, column))) {
         let texel = Texel {
             slice: 0,
             row: row.into(),
             column: column.into(),
         };
-        let places = rules::sample(&region, format, texel).expect("a texel of YUV");
+        let places = source.sample(format, texel).expect("a texel of YUV");
         let luma = 56 + 72 * column / WIDTH + 72 * row / HEIGHT;
         let sample = [luma, 112 + 32 * column / WIDTH, 112 + 32 * row / HEIGHT];
         for (at, code) in places.into_iter().zip(sample) {
@@ -512,15 +530,23 @@ fn smooth(format: &Format) -> Vec<u8> {
     frame
 }
 
-/// Converts a frame's texels that lie in rows of `row`, ours with a set of YUV numbers if one is
-/// given.
+/// What ours does where the original converts a frame: the same, the same with a set of YUV numbers,
+/// or the same to a picture that is stored bottom row first.
+#[cfg_attr(not(port), allow(dead_code))]
+enum Ours {
+    Same,
+    With(YuvSet),
+    Turned,
+}
+
+/// Converts a frame's texels that lie in rows of `row`.
 #[cfg_attr(not(port), allow(unused_variables))]
-fn convert(src: &[u8], from: &Format, to: &Format, row: u32, set: Option<YuvSet>) -> Numbers {
+fn convert(src: &[u8], from: &Format, to: &Format, row: u32, ours: Ours) -> Numbers {
     let width = row as usize;
     let height = (TEXELS / width) as u32;
     let region = whole_frame(row, height, width * from.bytes, width * to.bytes);
     let length = TEXELS * to.bytes;
-    let (mut dst, originals) = (vec![0; length], ConvertRegion::from(&region));
+    let (mut dst, originals) = (vec![0; length], originals(&flat(&region)));
     let routes = if rules::original_refuses(from.code, to.code) {
         Routes::without_original()
     } else {
@@ -531,7 +557,14 @@ fn convert(src: &[u8], from: &Format, to: &Format, row: u32, set: Option<YuvSet>
     };
     #[cfg(port)]
     let routes = {
-        let mut dst = vec![0; length];
+        let (mut dst, mut region) = (vec![0; length], region);
+        if let Ours::Turned = ours {
+            region.destination = common::Side::bottom_up(row * to.bytes as u32, height);
+        }
+        let set = match ours {
+            Ours::With(set) => Some(set),
+            _ => None,
+        };
         routes.ours(move || {
             let (dst, src) = (black_box(&mut dst), black_box(src));
             let (to, from) = (to.code, from.code);

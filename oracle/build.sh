@@ -194,7 +194,7 @@ missing() {
 
 common=("$here/common.rs" "$crate/shapes.rs" "$build/liboriginal.rlib")
 program worked_table "${common[@]}" --
-recorded=("${common[@]}" "$here"/{answers,calls,record_calls,rules,sets,stills,wrong}.rs)
+recorded=("${common[@]}" "$here"/{answers,by_texel,calls,record_calls,rules,sets,stills,wrong}.rs)
 if ((by_rules)); then program model "${recorded[@]}" "$here/drawn.rs" --; fi
 
 # A `bench` over another archive, or over none, is not kept.
@@ -225,10 +225,10 @@ fi
 program record "${recorded[@]}" "$float16" -- "${by_compiler[@]}"
 
 if [[ -z $missing ]]; then
-    common+=("$here"/{answers,calls,checks,drawn,findings,sets,stills}.rs "$float16")
+    common+=("$here"/{answers,by_texel,calls,checks,drawn,findings,sets,stills,whole_numbers}.rs "$float16")
     for name in compare fuzz; do
         program "$name" "${common[@]}" "$here"/parts/*.rs -- \
-            --check-cfg 'cfg(port)' "${port[@]}" -C overflow-checks=on "${by_compiler[@]}"
+            --check-cfg 'cfg(port, test)' "${port[@]}" -C overflow-checks=on "${by_compiler[@]}"
     done
 elif asked bench compare fuzz; then
     missing="$archive $missing (make library makes it; WENTUQIS_LIB_DIR names another folder)"

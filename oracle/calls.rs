@@ -6,7 +6,7 @@ use std::array;
 
 use crate::{
     common::{Planes, Region, Side, XorShift, YuvSet, random_bytes, random_units, whole_frame},
-    rules::{self, Conversion, FORMATS, Format, Kind, Transfer},
+    rules::{self, AnyRegion, Conversion, FORMATS, Format, Kind, Texel, Transfer},
 };
 
 /// A conversion with its buffers, by the call that takes a set of YUV numbers or by the one that
@@ -88,13 +88,18 @@ pub fn tie(code: u32, max: u32) -> u32 {
 }
 
 impl ConvertCall {
-    pub fn conversion(&self) -> Conversion<'_> {
+    /// The texels of the region, by slice, row and column.
+    pub fn texels(&self) -> impl Iterator<Item = Texel> + use<> {
+        AnyRegion::from(&self.region).texels()
+    }
+
+    pub fn conversion(&self) -> Conversion {
         Conversion {
             dst_format: self.dst_format,
             dst_length: self.dst.len(),
             src_format: self.src_format,
             src_length: self.src.len(),
-            region: &self.region,
+            region: (&self.region).into(),
             set: self.set.unwrap_or(rules::BT601),
         }
     }
@@ -162,13 +167,15 @@ impl ConvertCall {
         let src_rows = (src_y + height) as usize;
         let dst_rows = (dst_y + height) as usize;
         let source = Side {
-            pitch: src_pitch,
+            start: 0,
+            pitch: src_pitch as i64,
             slice_pitch: src_slice_pitch(random, from, src_pitch, src_rows),
             x: src_x,
             y: src_y,
         };
         let destination = Side {
-            pitch: dst_pitch,
+            start: 0,
+            pitch: dst_pitch as i64,
             slice_pitch: dst_pitch * dst_rows + padding(random, to),
             x: dst_x,
             y: dst_y,
@@ -196,10 +203,64 @@ impl ConvertCall {
         Self::accepted(random, from, to, [width, height, depth])
     }
 
-    /// Changes one length, pitch, code or size.
+    /// The same region of pictures that lie otherwise: each side has a start, and is stored bottom row
+    /// first once in two times, but for a planar source. Buffers have the least lengths.
+    pub fn turned(&self, random: &mut XorShift) -> Self {
+        let of = |code| rules::find(code).expect("a format that converts");
+        let (from, to, mut region) = (of(self.src_format), of(self.dst_format), self.region);
+        for (side, may_turn) in [
+            (&mut region.source, from.kind != Kind::PlanarYuv),
+            (&mut region.destination, true),
+        ] {
+            side.start = random.pick(&[0, 0, 1, 2, 3, 15]);
+            if may_turn && random.one_in(2) {
+                let last = u64::from(side.y) + u64::from(region.height) - 1;
+                side.start += last * side.pitch as u64;
+                side.pitch = -side.pitch;
+            }
+        }
+        let turned = Self::exact(random, from, to, region);
+        Self {
+            set: self.set,
+            ..turned
+        }
+    }
+
+    /// A conversion of one row, mostly an accepted one, that on one side has a start and so many rows to
+    /// go back that a few bytes are left of it. A planar source is none of these sides.
+    pub fn cancelling(random: &mut XorShift, from: &Format, to: &Format) -> Self {
+        let width = 1 + random.below(3) as u32;
+        let mut region = Self::accepted(random, from, to, [width, 1, 1]).region;
+        let of_source = from.kind != Kind::PlanarYuv && random.one_in(2);
+        let (side, format) = if of_source {
+            (&mut region.source, from)
+        } else {
+            (&mut region.destination, to)
+        };
+        let bits = random.below(64);
+        side.pitch = -1 << bits;
+        // rows up to those that go back 2^64 bytes or little more
+        side.y = any32(random) & (u64::MAX >> bits) as u32;
+        side.y = side.y.saturating_add(random.below(2) as u32);
+        let first = (u128::from(side.y) << bits) + u128::from(random.below(4));
+        // a column so far that rows must go back to it, or one at hand
+        side.x = random.pick(&[0, 1, 2, 3, 1 << 20, u32::MAX - 3]);
+        if u128::from(side.x) * 16 > first {
+            side.x %= 4;
+        }
+        let in_row = match format.kind {
+            Kind::PackedYuv => u128::from(side.x / 2) * 4,
+            _ => u128::from(side.x) * format.bytes as u128,
+        };
+        let start = first.saturating_sub(in_row);
+        side.start = u64::try_from(start).unwrap_or(u64::MAX);
+        Self::exact(random, from, to, region)
+    }
+
+    /// Changes one length, pitch, start, code or size.
     pub fn damage(&mut self, random: &mut XorShift) {
         let region = &mut self.region;
-        match random.below(16) {
+        match random.below(18) {
             0 | 1 => resize(&mut self.src, random),
             2 | 3 => resize(&mut self.dst, random),
             4 => self.src_format = any_code(random),
@@ -211,9 +272,11 @@ impl ConvertCall {
             10 => change32(&mut region.width, random),
             11 => change32(&mut region.height, random),
             12 => change64(&mut region.depth, random),
-            13 => change64(&mut region.source.pitch, random),
-            14 => change64(&mut region.destination.pitch, random),
-            _ if random.one_in(2) => change64(&mut region.source.slice_pitch, random),
+            13 if random.one_in(2) => change_pitch(&mut region.source.pitch, random),
+            13 => change_pitch(&mut region.destination.pitch, random),
+            14 => change_start(&mut region.source.start, random),
+            15 => change_start(&mut region.destination.start, random),
+            16 => change64(&mut region.source.slice_pitch, random),
             _ => change64(&mut region.destination.slice_pitch, random),
         }
     }
@@ -511,7 +574,8 @@ pub const EDGES32: [u32; 16] = [
     0xffff_ffff,
 ];
 
-/// Numbers of 64 bits at which offsets reach a limit; small multiples of some wrap to small ones.
+/// Numbers of 64 bits at which offsets reach a limit; small multiples of some wrap to small ones. Those
+/// from 2^63 on are negative pitches too.
 pub const EDGES64: [u64; 20] = [
     0,
     1,
@@ -587,6 +651,24 @@ pub fn change64(number: &mut usize, random: &mut XorShift) {
         3 => number.wrapping_mul(2),
         _ => any64(random) as usize,
     };
+}
+
+/// The same of a start.
+pub fn change_start(start: &mut u64, random: &mut XorShift) {
+    let mut number = *start as usize;
+    change64(&mut number, random);
+    *start = number as u64;
+}
+
+/// The same of a pitch, which may get the other sign.
+pub fn change_pitch(pitch: &mut i64, random: &mut XorShift) {
+    if random.one_in(6) {
+        *pitch = pitch.wrapping_neg();
+        return;
+    }
+    let mut number = *pitch as usize;
+    change64(&mut number, random);
+    *pitch = number as i64;
 }
 
 /// Makes a buffer shorter or longer, mostly by one byte.

@@ -1,8 +1,10 @@
 //! One check for each call of the port: the reply against the rules (rules.rs); acceptance and every
 //! accepted byte against the original, or stills.rs for the pairs that it refuses, or sets.rs for
-//! sets of YUV numbers (answers.rs), with BT601 against both; the binary16 code of every number, not
-//! of a NaN, against the C compiler's; that a refusal leaves every lent byte, that what is only read
-//! stays, and that nothing beside a lent buffer is written.
+//! sets of YUV numbers (answers.rs), with BT601 against both, or by_texel.rs and sets.rs for regions
+//! with a start or a negative pitch; the reply to every conversion, and the bytes of one of few
+//! texels, against the reading in whole_numbers.rs too; the binary16 code of every number, not of a
+//! NaN, against the C compiler's; that a refusal leaves every lent byte, that what is only read stays,
+//! and that nothing beside a lent buffer is written.
 //!
 //! The original is not asked where its 32-bit coordinates or 64-bit offsets would wrap, of plane
 //! layouts with refusal 10 (docs/DIFFERENCES.md), and where it would not end soon.
@@ -26,11 +28,11 @@ use original::{convert, pixel_convert, stretch_rect};
 use crate::{
     answers,
     calls::{ConvertCall, DepthCall},
-    common::{FillPixel, PlanarYuvLayout, Planes, YuvSet},
+    common::{FillPixel, FlatRegion, PlanarYuvLayout, Planes, Region, Side, YuvSet},
     findings::{Findings, Lent, bytes_text, format_text},
     port,
-    rules::{self, Layout},
-    sets, stills,
+    rules::{self, AnyRegion, Conversion, Layout},
+    sets, stills, whole_numbers,
 };
 
 /// Calls that pass over more texels than this are made only where a refusal or an empty region
@@ -38,7 +40,7 @@ use crate::{
 const MANY: u128 = 1 << 25;
 
 /// So many texels are looked at to see that the original stops early.
-const LOOKED_AT: u128 = 1 << 12;
+const LOOKED_AT: usize = 1 << 12;
 
 /// A call over many texels that has not replied after this time goes through them.
 const PATIENCE: Duration = Duration::from_secs(10);
@@ -168,7 +170,9 @@ type ColourCall = fn(u8, u8, u8, &mut [u8; 3]);
 
 /// These calls by name; the original's `yuv_to_rgb8` answers for each.
 const COLOURS: [(&str, ColourCall); 2] = [
-    ("yuv_to_rgb8", |y, u, v, rgb| port::yuv_to_rgb8(y, u, v, rgb)),
+    ("yuv_to_rgb8", |y, u, v, rgb| {
+        port::yuv_to_rgb8(y, u, v, rgb)
+    }),
     ("yuv_to_rgb8_by_tables", |y, u, v, rgb| {
         port::yuv_to_rgb8_by_tables(y, u, v, rgb);
     }),
@@ -180,6 +184,62 @@ fn port_reply(call: &ConvertCall, dst: &mut [u8], src: &[u8]) -> u32 {
     match &call.set {
         Some(set) => port::convert_region_with_set(dst, to, src, from, region, set),
         None => port::convert_region(dst, to, src, from, region),
+    }
+}
+
+/// Whose the answers of whole_numbers.rs are.
+const READER: &str = "by whole numbers";
+
+/// Regions of more texels are read again by whole_numbers.rs only as far as the reply.
+const READ_AGAIN: u128 = 1 << 8;
+
+/// Holds a reply, and the bytes of a region of few texels, to the reading in whole numbers.
+fn read_again(call: &ConvertCall, reply: u32, dst: &Lent<u8>, findings: &mut Findings) {
+    let (from, to, region) = (call.src_format, call.dst_format, whole_region(&call.region));
+    let set = call.set.map_or(whole_numbers::BT601, |set| whole_set(&set));
+    if reply != 0 || region.texels() > READ_AGAIN {
+        let lengths = (call.src.len(), call.dst.len());
+        let again = whole_numbers::reply(lengths.0, from, lengths.1, to, &region, &set);
+        findings.equal("reply", reply, READER, again);
+        return;
+    }
+    let mut bytes = call.dst.clone();
+    let again = whole_numbers::convert(&mut bytes, to, &call.src, from, &region, &set);
+    findings.equal("reply", reply, READER, again);
+    if again == 0 {
+        let at = findings.same("dst", dst, READER, &bytes, &call.dst);
+        findings.0.extend(at.and_then(|at| call.texel_text(at)));
+    }
+}
+
+/// A region as whole_numbers.rs declares it.
+fn whole_region(region: &Region) -> whole_numbers::Region {
+    let side = |side: &Side| whole_numbers::Side {
+        start: side.start,
+        pitch: side.pitch,
+        slice_pitch: side.slice_pitch,
+        x: side.x,
+        y: side.y,
+    };
+    whole_numbers::Region {
+        source: side(&region.source),
+        destination: side(&region.destination),
+        depth: region.depth,
+        width: region.width,
+        height: region.height,
+    }
+}
+
+/// A set likewise.
+const fn whole_set(set: &YuvSet) -> whole_numbers::Set {
+    whole_numbers::Set {
+        luma_gain: set.luma_gain,
+        luma_offset: set.luma_offset,
+        v_to_red: set.v_to_red,
+        u_to_green: set.u_to_green,
+        v_to_green: set.v_to_green,
+        u_to_blue: set.u_to_blue,
+        chroma_centre: set.chroma_centre,
     }
 }
 
@@ -278,10 +338,122 @@ impl Checks {
     }
 
     pub fn convert_region(&mut self, call: &ConvertCall) {
-        let defined = call.conversion().reply();
-        let many = answers::effort(&call.region) > MANY;
-        if many && defined == 0 && !rules::is_empty(&call.region) {
+        let conversion = call.conversion();
+        let mut findings = Findings::default();
+        let Some((reply, dst)) = self.converted(call, &conversion, &mut findings) else {
             return;
+        };
+        let many = answers::effort(&call.region) > MANY;
+        let stops = || !many || conversion.stops_among(LOOKED_AT);
+        let asked = answers::can_convert(call, conversion.reply(), stops);
+        let answer = ask(asked, || answers::convert(call));
+        let by_rules = answers::by_rules(call);
+        if let Some(answer) = self.answer(answer, &mut findings) {
+            findings.converted(call, reply, &dst, whose(by_rules), &answer);
+        }
+        if asked && !by_rules && call.set_in_use().is_some() {
+            findings.converted(call, reply, &dst, whose(true), &sets::convert(call));
+        }
+        self.found(findings, || call.text());
+    }
+
+    /// The conversion of a flat region, which the crate in rust/ makes one of two sides; the call's own
+    /// region counts for nothing. Its pitches may be of 2^63 or more, and the original is asked of them
+    /// as they are.
+    pub fn convert_flat(&mut self, call: &ConvertCall, flat: &FlatRegion) {
+        let call = ConvertCall {
+            region: (*flat).into(),
+            ..call.clone()
+        };
+        let conversion = Conversion {
+            region: AnyRegion::from(flat),
+            ..call.conversion()
+        };
+        let mut findings = Findings::default();
+        let Some((reply, dst)) = self.converted(&call, &conversion, &mut findings) else {
+            return;
+        };
+        let many = answers::effort(&call.region) > MANY;
+        let defined = conversion.reply();
+        let stops = || !many || conversion.stops_among(LOOKED_AT);
+        let fits = || conversion.region.is_empty() || conversion.sums_fit();
+        let asked = !answers::beyond(&call) && (matches!(defined, 1 | 2 | 15) || fits() && stops());
+        let answer = ask(asked, || answers::convert_flat(&call, flat));
+        if let Some(answer) = self.answer(answer, &mut findings) {
+            findings.converted(&call, reply, &dst, ITS, &answer);
+        }
+        self.found(findings, || format!("{flat:?}: {}", call.text()));
+    }
+
+    /// An upright picture of whole rows, from the first byte of either buffer on, to one that is stored
+    /// bottom row first, and back; then, unless it is planar, from one that is: the rows are each time
+    /// those of the upright conversion, padding too.
+    pub fn turned_over(&mut self, call: &ConvertCall) {
+        self.convert_region(call);
+        let Region {
+            source,
+            destination,
+            ..
+        } = call.region;
+        let over = |side: &Side| Side::bottom_up(side.pitch as u32, call.region.height);
+        let rows = |bytes: &[u8], side: &Side| -> Vec<u8> {
+            let rows = bytes.rchunks(side.pitch as usize);
+            rows.flatten().copied().collect()
+        };
+        let upright = self.destination_of(call);
+        let mut there = call.clone();
+        there.region.destination = over(&destination);
+        there.dst = rows(&call.dst, &destination);
+        let turned = self.destination_of(&there);
+        let back = ConvertCall {
+            src_format: call.dst_format,
+            src: turned.clone(),
+            region: Region {
+                source: over(&destination),
+                ..call.region
+            },
+            ..call.clone()
+        };
+        let mut findings = Findings::default();
+        let mut found = vec![("there", rows(&turned, &destination))];
+        if rules::can_convert(call.dst_format, call.dst_format) {
+            found.push(("back", self.destination_of(&back)));
+        }
+        if !rules::is_planar(call.src_format) {
+            let mut from = call.clone();
+            from.region.source = over(&source);
+            from.src = rows(&call.src, &source);
+            found.push(("from there", self.destination_of(&from)));
+        }
+        for (name, bytes) in found {
+            findings.equal_bits(name, bytes, "upright", upright.clone());
+        }
+        self.found(findings, || format!("turned over: {}", call.text()));
+    }
+
+    /// The destination after a call of the port, which is checked too.
+    fn destination_of(&mut self, call: &ConvertCall) -> Vec<u8> {
+        let mut dst = call.dst.clone();
+        let reply = port_reply(call, &mut dst, &call.src);
+        let mut findings = Findings::default();
+        findings.reply(reply, 0);
+        self.found(findings, || call.text());
+        self.convert_region(call);
+        dst
+    }
+
+    /// Makes a call of the port, unless it would not end soon: its reply, which is held to the rules,
+    /// and the destination, which is held to what it was if it may not change.
+    fn converted(
+        &mut self,
+        call: &ConvertCall,
+        conversion: &Conversion,
+        findings: &mut Findings,
+    ) -> Option<(u32, Lent<u8>)> {
+        let (defined, is_empty) = (conversion.reply(), conversion.region.is_empty());
+        let many = answers::effort(&call.region) > MANY;
+        if many && defined == 0 && !is_empty {
+            return None;
         }
         let (mut dst, src) = (self.lent(&call.dst), self.lent(&call.src));
         if many {
@@ -291,25 +463,15 @@ impl Checks {
         if many {
             *watched() = None;
         }
-        let mut findings = Findings::default();
         findings.reply(reply, defined);
         findings.kept("src", &src, &call.src);
         findings.guards("dst", &dst);
-        if reply != 0 || rules::is_empty(&call.region) {
+        if reply != 0 || is_empty {
             findings.kept("dst", &dst, &call.dst);
         }
-        let stops = || !many || call.conversion().stops_among(LOOKED_AT);
-        let asked = answers::can_convert(call, defined, stops);
-        let answer = ask(asked, || answers::convert(call));
-        let by_rules = answers::by_rules(call);
-        if let Some(answer) = self.answer(answer, &mut findings) {
-            findings.converted(call, reply, &dst, whose(by_rules), &answer);
-        }
-        if asked && !by_rules && call.set_in_use().is_some() {
-            findings.converted(call, reply, &dst, whose(true), &sets::convert(call));
-        }
+        read_again(call, reply, &dst, findings);
         self.count(call.name(), reply, 1);
-        self.found(findings, || call.text());
+        Some((reply, dst))
     }
 
     /// Converts a frame without padding to A8R8G8B8, and holds every byte to its limit: of YUY2 with

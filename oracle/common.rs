@@ -8,8 +8,12 @@ pub mod shapes;
 
 use original::pixel_convert::{ConvertRegion, convert_region};
 
-/// The structs that cross, of any numbers; `Planes` is the layout of a depth and a stencil plane.
-pub use shapes::{FillPixel, PlanarYuvLayout, PlaneLayout as Planes, Region, Side, YuvSet};
+/// The structs that cross, of any numbers, and the flat region that the crate in rust/ keeps; `Planes`
+/// is the layout of a depth and a stencil plane.
+pub use shapes::{
+    ConvertRegion as FlatRegion, FillPixel, PlanarYuvLayout, PlaneLayout as Planes, Region, Side,
+    YuvSet,
+};
 
 /// Marsaglia's xorshift generator of 64 bits, shifts 13, 7 and 17.
 pub struct XorShift(u64);
@@ -64,21 +68,44 @@ impl XorShift {
     }
 }
 
-impl From<&Region> for ConvertRegion {
-    fn from(region: &Region) -> Self {
-        Self {
-            src_x: region.source.x,
-            src_y: region.source.y,
-            dst_x: region.destination.x,
-            dst_y: region.destination.y,
-            width: region.width,
-            height: region.height,
-            src_pitch: region.source.pitch,
-            dst_pitch: region.destination.pitch,
-            src_slice_pitch: region.source.slice_pitch,
-            dst_slice_pitch: region.destination.slice_pitch,
-            depth: region.depth,
-        }
+/// Whether the original has such a region: both starts are 0 and no pitch is negative.
+pub const fn is_upright(region: &Region) -> bool {
+    let (source, destination) = (&region.source, &region.destination);
+    source.start == 0 && destination.start == 0 && source.pitch >= 0 && destination.pitch >= 0
+}
+
+/// The same region of the original's, of an upright one.
+pub fn flat(region: &Region) -> FlatRegion {
+    assert!(is_upright(region), "the original has no such region");
+    FlatRegion {
+        src_x: region.source.x,
+        src_y: region.source.y,
+        dst_x: region.destination.x,
+        dst_y: region.destination.y,
+        width: region.width,
+        height: region.height,
+        src_pitch: region.source.pitch as usize,
+        dst_pitch: region.destination.pitch as usize,
+        src_slice_pitch: region.source.slice_pitch,
+        dst_slice_pitch: region.destination.slice_pitch,
+        depth: region.depth,
+    }
+}
+
+/// A flat region as the original declares it.
+pub const fn originals(flat: &FlatRegion) -> ConvertRegion {
+    ConvertRegion {
+        src_x: flat.src_x,
+        src_y: flat.src_y,
+        dst_x: flat.dst_x,
+        dst_y: flat.dst_y,
+        width: flat.width,
+        height: flat.height,
+        src_pitch: flat.src_pitch,
+        dst_pitch: flat.dst_pitch,
+        src_slice_pitch: flat.src_slice_pitch,
+        dst_slice_pitch: flat.dst_slice_pitch,
+        depth: flat.depth,
     }
 }
 
@@ -96,7 +123,8 @@ pub const fn whole_frame(width: u32, height: u32, src_pitch: usize, dst_pitch: u
 /// A side of so many rows from its first byte on.
 const fn rows(pitch: usize, height: u32) -> Side {
     Side {
-        pitch,
+        start: 0,
+        pitch: pitch as i64,
         slice_pitch: pitch * height as usize,
         x: 0,
         y: 0,
@@ -110,7 +138,7 @@ pub fn convert_texel<const N: usize>(
     src_format: u32,
 ) -> Option<[u8; N]> {
     let mut dst = [0; N];
-    let region = ConvertRegion::from(&whole_frame(1, 1, src.len(), N));
+    let region = originals(&flat(&whole_frame(1, 1, src.len(), N)));
     convert_region(&mut dst, dst_format, src, src_format, &region).then_some(dst)
 }
 

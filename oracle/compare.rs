@@ -5,6 +5,7 @@
 //! 1 if anything differs.
 
 mod answers;
+mod by_texel;
 mod calls;
 mod checks;
 mod common;
@@ -15,24 +16,27 @@ mod parts {
     pub mod depth;
     pub mod fills;
     pub mod numbers;
+    pub mod placed;
     pub mod planar;
     pub mod with_set;
 }
 mod port;
 mod sets;
 mod stills;
+mod whole_numbers;
 
 use std::{process::ExitCode, thread, time::Instant};
 
 use checks::Checks;
 use common::XorShift;
-use parts::{convert, depth, fills, numbers, planar, with_set};
+use parts::{convert, depth, fills, numbers, placed, planar, with_set};
 
 /// A name, and what runs; the flag asks for the exhaustive forms.
 type Part = (&'static str, fn(&mut Checks, &mut XorShift, bool));
 
-const PARTS: [Part; 8] = [
+const PARTS: [Part; 9] = [
     ("convert", convert::run),
+    ("placed", placed::run),
     ("sets", with_set::run),
     ("depth", depth::run),
     ("yuv", numbers::yuv),

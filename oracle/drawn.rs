@@ -1,12 +1,14 @@
 //! The calls of `fuzz` and `model`: damaged copies of accepted ones, each with up to three lengths,
-//! pitches, codes or sizes changed, and up to three numbers of a set of YUV numbers.
+//! pitches, starts, codes or sizes changed, and up to three numbers of a set of YUV numbers. Half of the
+//! conversions are of pictures with starts, stored bottom row first among them, or of places whose parts
+//! cancel; some are of flat regions.
 
 use crate::{
     calls::{
-        ConvertCall, DepthCall, Pair, any_code, any_set, any32, any64, change32, pairs, resize,
-        yuv_pairs,
+        ConvertCall, DepthCall, Pair, any_code, any_set, any32, any64, change32, change64, pairs,
+        resize, yuv_pairs,
     },
-    common::{XorShift, random_bytes},
+    common::{FlatRegion, XorShift, flat, random_bytes},
     rules::{NV12, YV12},
 };
 
@@ -18,6 +20,8 @@ pub enum Call {
     },
     Colour([u8; 3]),
     Convert(ConvertCall),
+    /// Of a flat region in the place of the call's own.
+    ConvertFlat(ConvertCall, FlatRegion),
     Fill {
         color: u32,
         format: u32,
@@ -70,7 +74,8 @@ impl Draw {
     /// One call, or a few of the shortest ones.
     pub fn next(&mut self) -> Vec<Call> {
         match self.random.below(15) {
-            0..5 => vec![Call::Convert(self.conversion(false))],
+            0..4 => vec![Call::Convert(self.conversion(false))],
+            4 => vec![self.flat_conversion()],
             5..8 => {
                 let yuv = self.random.one_in(2);
                 let mut call = self.conversion(yuv);
@@ -90,22 +95,59 @@ impl Draw {
     /// A conversion between any two formats, each pair as often as another, of a small extent or of
     /// one or two rows of up to 72 texels. The extent shrinks until its buffers fit.
     fn conversion(&mut self, yuv: bool) -> ConvertCall {
+        let turned = self.random.below(8);
+        let mut call = self.accepted(yuv, |random, call, (from, to)| match turned {
+            0..3 => call.turned(random),
+            3 => ConvertCall::cancelling(random, from, to),
+            _ => call,
+        });
+        for _ in 0..self.random.below(4) {
+            call.damage(&mut self.random);
+        }
+        call
+    }
+
+    /// A flat region, of which a pitch is mostly one that no side has.
+    fn flat_conversion(&mut self) -> Call {
+        let mut call = self.accepted(false, |_, call, _| call);
+        let mut region = flat(&call.region);
+        let random = &mut self.random;
+        for _ in 0..random.below(4) {
+            call.damage(random);
+        }
+        for pitch in [&mut region.src_pitch, &mut region.dst_pitch] {
+            if random.one_in(4) {
+                change64(pitch, random);
+            }
+            if random.one_in(2) {
+                *pitch |= 1 << 63;
+            }
+        }
+        if random.one_in(2) {
+            (region.src_y, region.dst_y, region.height) = (0, 0, 1);
+        }
+        Call::ConvertFlat(call, region)
+    }
+
+    /// An accepted conversion, or what is made of it.
+    fn accepted(
+        &mut self,
+        yuv: bool,
+        made: impl Fn(&mut XorShift, ConvertCall, Pair) -> ConvertCall,
+    ) -> ConvertCall {
         let random = &mut self.random;
         let (from, to) = random.pick(if yuv { &self.yuv_pairs } else { &self.pairs });
         let [width, height] = random.pick(&[[9, 4], [9, 4], [72, 2], [72, 1]]);
         let mut most = [width, height, random.pick(&[1, 1, 1, 2, 3])];
-        let mut call = loop {
+        loop {
             let extent = most.map(|it| 1 + random.below(it) as u32);
             let call = ConvertCall::accepted(random, from, to, extent);
+            let call = made(random, call, (from, to));
             if call.src.len().max(call.dst.len()) <= self.longest {
-                break call;
+                return call;
             }
             most = extent.map(u64::from);
-        };
-        for _ in 0..random.below(4) {
-            call.damage(random);
         }
-        call
     }
 
     fn transfer(&mut self) -> DepthCall {

@@ -4,6 +4,7 @@ use std::fmt::{Debug, Write};
 
 use crate::{
     calls::{ConvertCall, DepthCall},
+    common::is_upright,
     rules::{self, Kind},
 };
 
@@ -172,11 +173,14 @@ impl ConvertCall {
     pub fn texel_text(&self, at: usize) -> Option<String> {
         let (from, to) = (rules::find(self.src_format)?, rules::find(self.dst_format)?);
         let region = &self.region;
-        if self.src.len() <= SHOWN || region.depth != 1 || from.kind == Kind::PlanarYuv {
+        let is_shown = self.src.len() <= SHOWN || region.depth != 1;
+        if is_shown || from.kind == Kind::PlanarYuv || !is_upright(region) {
             return None;
         }
-        let y = at.checked_div(region.destination.pitch)?;
-        let x = at % region.destination.pitch / to.bytes;
+        let [src_pitch, dst_pitch] =
+            [region.source.pitch, region.destination.pitch].map(|it| it as usize);
+        let y = at.checked_div(dst_pitch)?;
+        let x = at % dst_pitch / to.bytes;
         let row = y.checked_sub(region.destination.y as usize)?;
         let column = x.checked_sub(region.destination.x as usize)?;
         let source_x = region.source.x as usize + column;
@@ -184,7 +188,7 @@ impl ConvertCall {
             Kind::PackedYuv => (source_x / 2 * 4, 4),
             _ => (source_x * from.bytes, from.bytes),
         };
-        let start = (region.source.y as usize + row) * region.source.pitch + offset;
+        let start = (region.source.y as usize + row) * src_pitch + offset;
         let texel = bytes_text(self.src.get(start..start + bytes)?);
         Some(format!("row {row}, column {column}: source {texel}"))
     }

@@ -5,6 +5,7 @@
 //! one. The exit status is 1 if anything differs.
 
 mod answers;
+mod by_texel;
 mod calls;
 mod checks;
 mod common;
@@ -14,6 +15,7 @@ mod port;
 mod rules;
 mod sets;
 mod stills;
+mod whole_numbers;
 
 use std::{
     process::ExitCode,
@@ -69,6 +71,7 @@ fn check(checks: &mut Checks, call: Call) {
         Call::CanConvert { src, dst } => checks.can_convert(src, dst),
         Call::Colour(sample) => checks.triples([sample]),
         Call::Convert(call) => checks.convert_region(&call),
+        Call::ConvertFlat(call, flat) => checks.convert_flat(&call, &flat),
         Call::Fill { color, format } => checks.fill(color, format),
         Call::Half(bits) => checks.halves([bits]),
         Call::NamedSets => checks.named_sets(),

@@ -7,6 +7,7 @@
 //! and SEED give the same bytes.
 
 mod answers;
+mod by_texel;
 mod calls;
 mod common;
 mod drawn;
@@ -21,6 +22,7 @@ use std::{
     process::ExitCode,
 };
 
+use calls::ConvertCall;
 use common::{XorShift, YuvSet};
 use drawn::{Call, Draw};
 use original::pixel_convert;
@@ -112,6 +114,13 @@ fn record(to: &mut Recorder, enough: usize, call: &Call) {
             answer(number, call.conversion().reply(), &|to| {
                 to.convert(call);
             });
+        }
+        Call::ConvertFlat(call, flat) => {
+            let call = ConvertCall {
+                region: (*flat).into(),
+                ..call.clone()
+            };
+            record(to, enough, &Call::Convert(call));
         }
         &Call::Fill { color, format } => {
             answer(22, rules::fill(format), &|to| fill(to, color, format));

@@ -8,6 +8,7 @@
 //! `wrong_buffers`, have records of these in which one part of the answer is changed (wrong.rs).
 
 mod answers;
+mod by_texel;
 mod calls;
 mod common;
 mod record_calls;

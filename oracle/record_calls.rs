@@ -2,16 +2,17 @@
 //! little-endian numbers. README.md lists the calls and the places in a record.
 //!
 //! `values`, 64 bytes: the call's number and 1 for a refusal, three parameters, 32 bytes of answer.
-//! `buffers` and `sets`, 512 bytes: the call's number and 1 for a refusal, fifteen parameters, five
+//! `buffers` and `sets`, 512 bytes: the call's number and 1 for a refusal, seventeen parameters, five
 //! areas.
 //!
 //! The original decides acceptance and every byte of an accepted call; for the pairs that it
-//! refuses and the port converts, rules.rs and stills.rs do, for sets of YUV numbers other than BT601 rules.rs and
-//! sets.rs, and for binary16 between 2^-25 and 2^-24 the C compiler (float16.c). After a refusal
-//! every lent byte is what it was and what is handed back is zero, which is the port's rule
-//! (docs/DIFFERENCES.md). Left out: what the original would wrap or panic at, what it would accept
-//! of a plane layout that has refusal 10, and what does not fit in an area. Over the stand-in of the rules
-//! alone nothing is left out but what does not fit.
+//! refuses and the port converts, rules.rs and stills.rs do, for sets of YUV numbers other than BT601
+//! rules.rs and sets.rs, for regions with a start or a negative pitch rules.rs and by_texel.rs or
+//! sets.rs, and for binary16 between 2^-25 and 2^-24 the C compiler (float16.c). After a refusal every
+//! lent byte is what it was and what is handed back is zero, which is the port's rule
+//! (docs/DIFFERENCES.md). Left out: what the original would wrap or panic at, what it would accept of
+//! a plane layout that has refusal 10, and what does not fit in an area. Over the stand-in of the
+//! rules alone nothing is left out but what does not fit.
 #![allow(dead_code)]
 
 use original::{convert, pixel_convert, stretch_rect};
@@ -22,7 +23,7 @@ use crate::{
         CHANGES, ConvertCall, DEPTHS, DepthCall, EDGES32, MAGNITUDES, Pair, any_code, any32, any64,
         both_signs, legal_set, listed_codes, near_tie, pairs, sets_at_ends, sets_outside,
     },
-    common::{Region, XorShift, YuvSet, random_bytes, whole_frame},
+    common::{Region, Side, XorShift, YuvSet, random_bytes, whole_frame},
     rules::{self, BT601, BT709, FORMATS, Format, Kind, NV12, YV12, named},
 };
 
@@ -64,7 +65,7 @@ pub const SETS: [Call; 1] = [(30, "convert_region_with_set", conversions_with_se
 pub const AREA: usize = 72;
 
 /// The parameters of a call that is lent buffers.
-const PARAMETERS: usize = 15;
+const PARAMETERS: usize = 17;
 
 /// No call passes over more texels.
 const MANY: u128 = 1 << 12;
@@ -208,20 +209,27 @@ fn short_packed(call: &DepthCall) -> bool {
     height > 0 && call.planes.width < AREA && (call.packed.len() as u128) < end(height - 1)
 }
 
-/// Lengths of source and destination, then the parameters of the call.
+/// Lengths and formats of source and destination, then the region in the order of its fields; a
+/// negative pitch in two's complement.
 fn convert_parameters(call: &ConvertCall) -> Vec<u64> {
     let region = &call.region;
-    let lengths = [call.src.len(), call.dst.len()];
-    let formats = [call.dst_format, call.src_format];
-    let [source, destination] = [&region.source, &region.destination];
-    let origins = [source.x, source.y, destination.x, destination.y];
-    let extent = [region.width, region.height];
-    let pitches = [source.pitch, destination.pitch];
-    let slices = [source.slice_pitch, destination.slice_pitch, region.depth];
-    let narrow = formats.into_iter().chain(origins).chain(extent);
-    let all = lengths.into_iter().chain(narrow.map(|it| it as usize));
-    let all = all.chain(pitches).chain(slices);
-    all.map(|it| it as u64).collect()
+    let lengths = [call.src.len(), call.dst.len()].map(|it| it as u64);
+    let formats = [call.dst_format, call.src_format].map(u64::from);
+    let extent = [
+        region.depth as u64,
+        region.width.into(),
+        region.height.into(),
+    ];
+    let sides = [&region.source, &region.destination].map(|side| {
+        [
+            side.start,
+            side.pitch as u64,
+            side.slice_pitch as u64,
+            side.x.into(),
+            side.y.into(),
+        ]
+    });
+    [&lengths[..], &formats, sides.as_flattened(), &extent].concat()
 }
 
 /// Lengths of packed pixels, depth and stencil, then the parameters of the call.
@@ -407,8 +415,9 @@ pub fn rgba(to: &mut Recorder, color: u32) {
     to.value([color.into(), 0, 0], Some(bits.as_flattened()));
 }
 
-/// For every pair that converts an exact region, one that is a byte short, and one of overlapping
-/// rows; then empty regions, pairs that do not convert, planar ones, and damaged calls.
+/// For every pair that converts an exact region, one that is a byte short, one of overlapping rows,
+/// and pictures with starts and stored bottom row first; then empty regions, pairs that do not
+/// convert, planar ones, and damaged calls.
 fn conversions(to: &mut Recorder) {
     for (from, into) in pairs() {
         let call = fitting(to, from, into);
@@ -419,6 +428,7 @@ fn conversions(to: &mut Recorder) {
         to.convert(&call);
         let call = fitting(to, from, into);
         to.convert(&call);
+        turned(to, &call);
     }
     let planar: Vec<_> = pairs()
         .into_iter()
@@ -442,10 +452,29 @@ fn conversions(to: &mut Recorder) {
     }
 }
 
+/// Records the conversion from and to pictures that lie otherwise, with buffers of the least lengths,
+/// and with one that is a byte short or a start that is one less.
+fn turned(to: &mut Recorder, call: &ConvertCall) {
+    let call = call.turned(&mut to.random);
+    to.convert(&call);
+    let mut other = shorter(&call, &mut to.random);
+    if to.random.one_in(2) {
+        other = call.clone();
+        let region = &mut other.region;
+        let side = if to.random.one_in(2) {
+            &mut region.source
+        } else {
+            &mut region.destination
+        };
+        side.start = side.start.wrapping_sub(1);
+    }
+    to.convert(&other);
+}
+
 /// For every pair from YUV an exact region with both named sets and another legal one, one that is
-/// a byte short, and one of overlapping rows; for every YUV source each number at both ends of its
-/// range, and every change of an accepted call; illegal sets with these changes, and with sources
-/// that are not YUV.
+/// a byte short, one of overlapping rows, and one of pictures that lie otherwise; for every YUV source
+/// each number at both ends of its range, and every change of an accepted call; illegal sets with these
+/// changes, and with sources that are not YUV.
 fn conversions_with_set(to: &mut Recorder) {
     let (yuv, others): (Vec<Pair>, Vec<Pair>) = pairs()
         .into_iter()
@@ -459,6 +488,8 @@ fn conversions_with_set(to: &mut Recorder) {
         let call = shorter(&call, &mut to.random);
         with_set(to, set, call);
         let call = overlapping(to, from, into);
+        with_set(to, set, call);
+        let call = fitting(to, from, into).turned(&mut to.random);
         with_set(to, set, call);
     }
     for from in ["YUY2", "UYVY", "YV12", "NV12"].map(named) {
@@ -522,12 +553,14 @@ fn shorter(call: &ConvertCall, random: &mut XorShift) -> ConvertCall {
 fn overlapping(to: &mut Recorder, from: &Format, into: &Format) -> ConvertCall {
     let mut region: Region = fitting(to, from, into).region;
     (region.width, region.height) = (region.width.max(2), region.height.max(2));
-    let mut shrink = |size: &mut usize| *size = to.random.below(*size as u64 + 1) as usize;
-    shrink(&mut region.destination.pitch);
-    shrink(&mut region.destination.slice_pitch);
+    let mut shrunk = |size: usize| to.random.below(size as u64 + 1) as usize;
+    let mut shrink = |side: &mut Side| {
+        side.pitch = shrunk(side.pitch as usize) as i64;
+        side.slice_pitch = shrunk(side.slice_pitch);
+    };
+    shrink(&mut region.destination);
     if from.kind != Kind::PlanarYuv {
-        shrink(&mut region.source.pitch);
-        shrink(&mut region.source.slice_pitch);
+        shrink(&mut region.source);
     }
     ConvertCall::exact(&mut to.random, from, into, region)
 }

@@ -3,12 +3,12 @@
 //! port converts; where the bytes of a YUV texel lie; the named sets; and the interval in which
 //! binary16 departs from the original. Written from the rules alone, to judge the port by: neither
 //! the original's code nor the port's stands behind it, but for the formats that the original
-//! converts, whose lists are the original's, and the structs that cross. Numbers have 128 bits, so
-//! that products of 64-bit numbers are true ones; a sum that would not fit stays at the greatest
-//! number, which lies past every buffer.
+//! converts, whose lists are the original's, and the structs that cross. Numbers have 128 bits. Places
+//! have a sign; a product or sum that would not fit stays at the greatest number, which lies past
+//! every buffer even less what the rows go back, 2^96 at most.
 #![allow(dead_code)]
 
-use crate::common::{Planes, Region, Side, YuvSet};
+use crate::common::{FlatRegion, Planes, Region, Side, YuvSet};
 
 /// Whether the bits are a binary32 number whose magnitude lies above 2^-25 and below 2^-24: there
 /// binary16 is the nearest number, and zero in the original.
@@ -132,6 +132,11 @@ pub fn original_refuses(src_format: u32, dst_format: u32) -> bool {
     kind(src_format) == Some(Kind::Still) && can_convert(src_format, dst_format)
 }
 
+/// Whether a source of this code is planar.
+pub fn is_planar(code: u32) -> bool {
+    kind(code) == Some(Kind::PlanarYuv)
+}
+
 /// Whether a source of this code goes by a set of YUV numbers.
 pub fn is_yuv(code: u32) -> bool {
     matches!(kind(code), Some(Kind::PackedYuv | Kind::PlanarYuv))
@@ -209,6 +214,69 @@ const fn nearest16_16(thousandths: u32) -> u32 {
     (thousandths * 65536 + 500) / 1000
 }
 
+/// A side of a region, whose pitch may be any number of 64 bits, with a sign or without.
+#[derive(Clone, Copy, Debug)]
+pub struct AnySide {
+    pub start: u64,
+    pub pitch: i128,
+    pub slice_pitch: usize,
+    pub x: u32,
+    pub y: u32,
+}
+
+impl From<&Side> for AnySide {
+    fn from(side: &Side) -> Self {
+        Self {
+            start: side.start,
+            pitch: side.pitch.into(),
+            slice_pitch: side.slice_pitch,
+            x: side.x,
+            y: side.y,
+        }
+    }
+}
+
+/// A region of such sides, made of one that crosses, or of a flat one as it was given.
+#[derive(Clone, Copy, Debug)]
+pub struct AnyRegion {
+    pub source: AnySide,
+    pub destination: AnySide,
+    pub depth: usize,
+    pub width: u32,
+    pub height: u32,
+}
+
+impl From<&Region> for AnyRegion {
+    fn from(region: &Region) -> Self {
+        Self {
+            source: (&region.source).into(),
+            destination: (&region.destination).into(),
+            depth: region.depth,
+            width: region.width,
+            height: region.height,
+        }
+    }
+}
+
+impl From<&FlatRegion> for AnyRegion {
+    fn from(flat: &FlatRegion) -> Self {
+        let side = |pitch: usize, slice_pitch, x, y| AnySide {
+            start: 0,
+            pitch: pitch as i128,
+            slice_pitch,
+            x,
+            y,
+        };
+        Self {
+            source: side(flat.src_pitch, flat.src_slice_pitch, flat.src_x, flat.src_y),
+            destination: side(flat.dst_pitch, flat.dst_slice_pitch, flat.dst_x, flat.dst_y),
+            depth: flat.depth,
+            width: flat.width,
+            height: flat.height,
+        }
+    }
+}
+
 /// A texel of a region, counted from the region's first one.
 #[derive(Clone, Copy)]
 pub struct Texel {
@@ -220,212 +288,284 @@ pub struct Texel {
 /// Up to this many texels a region is decided texel by texel.
 const FEW: u128 = 4096;
 
-/// The texels of a region of few, by slice, row, column; of a larger one the last texel alone.
-///
-/// The last one suffices. Its slice, row and column are the greatest, and all that decides about
-/// a texel grows with each of the three or stays: its coordinates, its offsets in either buffer
-/// (pitches are not negative, and halving rounds down), and how far right and down it lies in a
-/// planar layout. So if any texel is outside, the last one is.
-fn texels(region: &Region) -> impl Iterator<Item = Texel> {
-    let [depth, height, width] = extent(region);
-    let count = depth.saturating_mul(height).saturating_mul(width);
-    let start = move |size: u128| if count <= FEW { 0 } else { size - 1 };
-    (start(depth)..depth).flat_map(move |slice| {
-        (start(height)..height).flat_map(move |row| {
-            (start(width)..width).map(move |column| Texel { slice, row, column })
+impl AnyRegion {
+    fn sizes(&self) -> [u128; 3] {
+        [self.depth as u128, self.height.into(), self.width.into()]
+    }
+
+    /// Whether the region has no texel.
+    pub fn is_empty(&self) -> bool {
+        self.sizes().contains(&0)
+    }
+
+    /// Every texel, by slice, row, column.
+    pub fn texels(&self) -> impl Iterator<Item = Texel> + use<> {
+        every(self.sizes(), [1; 3])
+    }
+
+    /// The texels of a region of few, by slice, row, column; of a larger one those at its corners.
+    ///
+    /// These suffice. All that decides about a texel moves one way, or stays, from one slice to the
+    /// next, and so from row to row and from column to column, wherever the other two are: its
+    /// coordinates, the places of its bytes in either buffer (halving rounds down), and how far right
+    /// and down it lies in a planar layout. So the least and the greatest of each are at corners.
+    fn deciding(&self) -> impl Iterator<Item = Texel> + use<> {
+        let sizes = self.sizes();
+        let few = sizes.into_iter().fold(1, u128::saturating_mul) <= FEW;
+        let step = |size: u128| {
+            if few {
+                1
+            } else {
+                size.saturating_sub(1).max(1) as usize
+            }
+        };
+        every(sizes, sizes.map(step))
+    }
+}
+
+/// The texels at these steps of slices, rows and columns, by slice, row, column.
+fn every(sizes: [u128; 3], [slices, rows, columns]: [usize; 3]) -> impl Iterator<Item = Texel> {
+    let is_empty = sizes.contains(&0);
+    let [depth, height, width] = if is_empty { [0; 3] } else { sizes };
+    (0..depth).step_by(slices).flat_map(move |slice| {
+        (0..height).step_by(rows).flat_map(move |row| {
+            let columns = (0..width).step_by(columns);
+            columns.map(move |column| Texel { slice, row, column })
         })
     })
 }
 
-fn extent(region: &Region) -> [u128; 3] {
-    [
-        region.depth as u128,
-        region.height.into(),
-        region.width.into(),
-    ]
+/// The bytes that a texel needs: the first of them, and one past the last.
+#[derive(Clone, Copy)]
+struct Bytes {
+    first: i128,
+    end: i128,
 }
 
-/// Whether the region has no texel.
-pub fn is_empty(region: &Region) -> bool {
-    extent(region).contains(&0)
-}
-
-/// A texel's column and row in a buffer; none above 4294967295.
-fn coordinates(side: &Side, texel: Texel) -> Option<(u128, u128)> {
-    let (x, y) = (
-        u128::from(side.x) + texel.column,
-        u128::from(side.y) + texel.row,
-    );
-    (x.max(y) <= u32::MAX.into()).then_some((x, y))
-}
-
-/// The offset of a place in row `y` of a slice.
-fn linear(side: &Side, slice: u128, y: u128, in_row: u128) -> u128 {
-    (slice * side.slice_pitch as u128).saturating_add(y * side.pitch as u128 + in_row)
-}
-
-/// One past the last byte that a texel needs of the source; none where it has no such bytes.
-fn source_end(region: &Region, format: &Format, texel: Texel) -> Option<u128> {
-    let (x, y) = coordinates(&region.source, texel)?;
-    let bytes = format.bytes as u128;
-    let row_end = match format.kind {
-        Kind::Rgb | Kind::Wide | Kind::Still => (x + 1) * bytes,
-        Kind::PackedYuv => x / 2 * 4 + 4,
-        Kind::PlanarYuv => return planar_end(&region.source, format.code, x, y),
-    };
-    Some(linear(&region.source, texel.slice, y, row_end))
-}
-
-/// One past the last of a planar texel's three bytes.
-fn planar_end(side: &Side, code: u32, x: u128, y: u128) -> Option<u128> {
-    let last = planar_sample(side, code, x, y)?.into_iter().max()?;
-    Some(last + 1)
-}
-
-/// Where the luma, the U and the V of a YUV texel lie in the source.
-pub fn sample(region: &Region, format: &Format, texel: Texel) -> Option<[u128; 3]> {
-    let side = &region.source;
-    let (x, y) = coordinates(side, texel)?;
-    if format.kind == Kind::PlanarYuv {
-        return planar_sample(side, format.code, x, y);
+impl Bytes {
+    /// So many bytes from a place on.
+    const fn from(first: i128, count: usize) -> Self {
+        Self {
+            first,
+            end: first.saturating_add(count as i128),
+        }
     }
-    let second = 2 * (x % 2);
-    let in_macropixel = match format.name {
-        "YUY2" => [second, 1, 3],
-        "UYVY" => [1 + second, 0, 2],
-        _ => return None,
-    };
-    let start = linear(side, texel.slice, y, x / 2 * 4);
-    Some(in_macropixel.map(|it| start.saturating_add(it)))
-}
 
-/// The same in a planar layout.
-fn planar_sample(side: &Side, code: u32, x: u128, y: u128) -> Option<[u128; 3]> {
-    let luma_rows = side.slice_pitch.checked_div(side.pitch)?;
-    let (0, [pitch, luma_rows, chroma_rows, _]) =
-        planar_layout_from_pitch(code, side.pitch, luma_rows)
-    else {
-        return None;
-    };
-    let [pitch, luma_rows, chroma_rows] = [pitch, luma_rows, chroma_rows].map(u128::from);
-    if x >= pitch || y >= luma_rows {
-        return None;
+    /// These bytes, the others, and all between.
+    fn with(self, other: Self) -> Self {
+        Self {
+            first: self.first.min(other.first),
+            end: self.end.max(other.end),
+        }
     }
-    let luma = y * pitch + x;
-    let base = pitch * luma_rows;
-    let (u, v) = if code == NV12 {
-        let u = base + y / 2 * pitch + 2 * (x / 2);
-        (u, u + 1)
-    } else {
-        let v = base + y / 2 * (pitch / 2) + x / 2;
-        (v + chroma_rows * (pitch / 2), v)
-    };
-    Some([luma, u, v])
 }
 
-/// One past the last byte that a texel needs of the destination.
-fn destination_end(region: &Region, format: &Format, texel: Texel) -> Option<u128> {
-    let (x, y) = coordinates(&region.destination, texel)?;
-    let row_end = (x + 1) * format.bytes as u128;
-    Some(linear(&region.destination, texel.slice, y, row_end))
+impl AnySide {
+    /// A texel's column and row in the picture; none above 4294967295.
+    fn coordinates(&self, texel: Texel) -> Option<(u128, u128)> {
+        let (x, y) = (
+            u128::from(self.x) + texel.column,
+            u128::from(self.y) + texel.row,
+        );
+        (x.max(y) <= u32::MAX.into()).then_some((x, y))
+    }
+
+    /// The place of a byte that so many bytes of its row come before, in row `y` of a slice.
+    fn place(&self, slice: u128, y: u128, in_row: u128) -> i128 {
+        let slices = slice.checked_mul(self.slice_pitch as u128);
+        let slices = slices.and_then(|it| i128::try_from(it).ok());
+        slices
+            .unwrap_or(i128::MAX)
+            .saturating_add(i128::from(self.start) + in_row as i128)
+            .saturating_add(y as i128 * self.pitch)
+    }
+
+    /// Where a texel of so many bytes starts that lies inside its buffer.
+    pub fn texel(&self, texel: Texel, bytes: usize) -> usize {
+        let (x, y) = self.coordinates(texel).expect("a texel inside");
+        let place = self.place(texel.slice, y, x * bytes as u128);
+        usize::try_from(place).expect("a texel inside")
+    }
+
+    /// The bytes that a texel of the destination needs, or one of a source with lanes.
+    fn bytes(&self, format: &Format, texel: Texel) -> Option<Bytes> {
+        let (x, y) = self.coordinates(texel)?;
+        let first = self.place(texel.slice, y, x * format.bytes as u128);
+        Some(Bytes::from(first, format.bytes))
+    }
+
+    /// The bytes that a texel needs of the source; none where it has no such bytes.
+    fn source_bytes(&self, format: &Format, texel: Texel) -> Option<Bytes> {
+        match format.kind {
+            Kind::Rgb | Kind::Wide | Kind::Still => self.bytes(format, texel),
+            Kind::PackedYuv => {
+                let (x, y) = self.coordinates(texel)?;
+                Some(Bytes::from(self.place(texel.slice, y, x / 2 * 4), 4))
+            }
+            Kind::PlanarYuv => {
+                let places = self.sample(format, texel)?;
+                let (first, last) = (places.into_iter().min()?, places.into_iter().max()?);
+                let end = last + 1;
+                Some(Bytes { first, end })
+            }
+        }
+    }
+
+    /// Where the luma, the U and the V of a YUV texel lie in the source.
+    pub fn sample(&self, format: &Format, texel: Texel) -> Option<[i128; 3]> {
+        let (x, y) = self.coordinates(texel)?;
+        let second = 2 * (x % 2) as i128;
+        let in_macropixel = match format.name {
+            "YUY2" => [second, 1, 3],
+            "UYVY" => [1 + second, 0, 2],
+            _ => return self.planar_sample(format.code, x, y),
+        };
+        let start = self.place(texel.slice, y, x / 2 * 4);
+        Some(in_macropixel.map(|it| start.saturating_add(it)))
+    }
+
+    /// The same in a planar layout, which counts from the start.
+    fn planar_sample(&self, code: u32, x: u128, y: u128) -> Option<[i128; 3]> {
+        let pitch = usize::try_from(self.pitch).ok()?;
+        let luma_rows = self.slice_pitch.checked_div(pitch)?;
+        let (0, [pitch, luma_rows, chroma_rows, _]) =
+            planar_layout_from_pitch(code, pitch, luma_rows)
+        else {
+            return None;
+        };
+        let [pitch, luma_rows, chroma_rows] = [pitch, luma_rows, chroma_rows].map(u128::from);
+        if x >= pitch || y >= luma_rows {
+            return None;
+        }
+        let luma = y * pitch + x;
+        let base = pitch * luma_rows;
+        let (u, v) = if code == NV12 {
+            let u = base + y / 2 * pitch + 2 * (x / 2);
+            (u, u + 1)
+        } else {
+            let v = base + y / 2 * (pitch / 2) + x / 2;
+            (v + chroma_rows * (pitch / 2), v)
+        };
+        Some([luma, u, v].map(|it| i128::from(self.start) + it as i128))
+    }
 }
 
-fn outside(end: Option<u128>, length: usize) -> bool {
-    end.is_none_or(|end| end > length as u128)
+fn outside(bytes: Option<Bytes>, length: usize) -> bool {
+    bytes.is_none_or(|it| it.first < 0 || it.end > length as i128)
 }
 
 /// A conversion as far as its reply depends on it.
-pub struct Conversion<'a> {
+pub struct Conversion {
     pub dst_format: u32,
     pub dst_length: usize,
     pub src_format: u32,
     pub src_length: usize,
-    pub region: &'a Region,
+    pub region: AnyRegion,
     pub set: YuvSet,
 }
 
-impl Conversion<'_> {
+impl Conversion {
     /// Refusals 1 to 4 and 15.
     pub fn reply(&self) -> u32 {
-        let region = self.region;
+        let region = &self.region;
+        let source = &region.source;
         if !can_convert(self.src_format, self.dst_format) {
             return 1;
         }
-        if kind(self.src_format) == Some(Kind::PlanarYuv)
+        if is_planar(self.src_format)
             && (region.depth != 1
-                || region.source.pitch == 0
-                || !region
-                    .source
-                    .slice_pitch
-                    .is_multiple_of(region.source.pitch))
+                || source.pitch <= 0
+                || source.slice_pitch as i128 % source.pitch != 0)
         {
             return 2;
         }
         if is_yuv(self.src_format) && !is_legal(&self.set) {
             return 15;
         }
-        if is_empty(region) {
+        if region.is_empty() {
             return 0;
         }
-        if texels(region).any(|texel| self.source_outside(texel)) {
+        if region.deciding().any(|texel| self.source_outside(texel)) {
             return 3;
         }
-        if texels(region).any(|texel| self.destination_outside(texel)) {
+        if region
+            .deciding()
+            .any(|texel| self.destination_outside(texel))
+        {
             return 4;
         }
         0
     }
 
     fn source_outside(&self, texel: Texel) -> bool {
-        let end = find(self.src_format).and_then(|it| source_end(self.region, it, texel));
-        outside(end, self.src_length)
+        let source = &self.region.source;
+        let bytes = find(self.src_format).and_then(|it| source.source_bytes(it, texel));
+        outside(bytes, self.src_length)
     }
 
     fn destination_outside(&self, texel: Texel) -> bool {
-        let end = find(self.dst_format).and_then(|it| destination_end(self.region, it, texel));
-        outside(end, self.dst_length)
+        let destination = &self.region.destination;
+        let bytes = find(self.dst_format).and_then(|it| destination.bytes(it, texel));
+        outside(bytes, self.dst_length)
     }
 
-    /// The least lengths of source and destination with which the pair converts the region.
-    pub fn least_lengths(&self) -> Option<(u128, u128)> {
+    /// The first byte that the region needs of source and of destination, and one past the last; none
+    /// where a texel has no bytes.
+    fn reach(&self) -> Option<[Bytes; 2]> {
         let (from, to) = (find(self.src_format)?, find(self.dst_format)?);
-        let mut least = (0, 0);
-        for texel in texels(self.region) {
-            least.0 = source_end(self.region, from, texel)?.max(least.0);
-            least.1 = destination_end(self.region, to, texel)?.max(least.1);
+        let mut reach: Option<[Bytes; 2]> = None;
+        for texel in self.region.deciding() {
+            let source = self.region.source.source_bytes(from, texel)?;
+            let destination = self.region.destination.bytes(to, texel)?;
+            let both = [source, destination];
+            reach = Some(reach.map_or(both, |reach| [0, 1].map(|it| reach[it].with(both[it]))));
         }
-        Some(least)
+        reach
+    }
+
+    /// The first byte that the region needs of source and of destination.
+    pub fn lowest(&self) -> Option<[i128; 2]> {
+        Some(self.reach()?.map(|bytes| bytes.first))
+    }
+
+    /// The least lengths of source and destination with which the pair converts the region; none
+    /// where no lengths would do.
+    pub fn least_lengths(&self) -> Option<(u128, u128)> {
+        if self.region.is_empty() {
+            return Some((0, 0));
+        }
+        let [source, destination] = self.reach()?;
+        let inside = source.first >= 0 && destination.first >= 0;
+        inside.then_some((source.end as u128, destination.end as u128))
     }
 
     /// Whether 32-bit coordinates and 64-bit offsets hold those of every texel, for a pair that
-    /// converts. Planar offsets always fit: only texels inside the layout have them.
+    /// converts and sides that the original has. Planar offsets always fit: only texels inside the
+    /// layout have them.
     pub fn sums_fit(&self) -> bool {
-        let fits = |end: u128| end <= u64::MAX.into();
+        let fits = |bytes: Bytes| bytes.end <= u64::MAX.into();
         let (Some(from), Some(to)) = (find(self.src_format), find(self.dst_format)) else {
             return false;
         };
-        texels(self.region).all(|texel| {
+        let AnyRegion {
+            source,
+            destination,
+            ..
+        } = &self.region;
+        self.region.deciding().all(|texel| {
             let source = if from.kind == Kind::PlanarYuv {
-                coordinates(&self.region.source, texel).is_some()
+                source.coordinates(texel).is_some()
             } else {
-                source_end(self.region, from, texel).is_some_and(fits)
+                source.source_bytes(from, texel).is_some_and(fits)
             };
-            source && destination_end(self.region, to, texel).is_some_and(fits)
+            source && destination.bytes(to, texel).is_some_and(fits)
         })
     }
 
     /// Whether one of the first `count` texels, by slice, row and column, is outside.
-    pub fn stops_among(&self, count: u128) -> bool {
-        let [depth, height, width] = extent(self.region);
-        let total = depth.saturating_mul(height).saturating_mul(width);
-        (0..total.min(count)).any(|place| {
-            let texel = Texel {
-                slice: place / width / height,
-                row: place / width % height,
-                column: place % width,
-            };
-            self.source_outside(texel) || self.destination_outside(texel)
-        })
+    pub fn stops_among(&self, count: usize) -> bool {
+        let mut first = self.region.texels().take(count);
+        first.any(|texel| self.source_outside(texel) || self.destination_outside(texel))
     }
 }
 

@@ -1,15 +1,14 @@
 //! Conversions from YUV with a set of numbers (docs/RULES.md, Sets of numbers). The colour of a sample is
 //! worked out from the definition in whole numbers, and neither the original nor the port stands
-//! behind it; rules.rs says which calls are accepted and where a texel's sample lies. A colour goes
-//! into the destination by the original, which is given it as a texel of A8R8G8B8.
+//! behind it; rules.rs says which calls are accepted and where a texel's sample lies. A colour becomes
+//! a texel of the destination by the original, which is given it in A8R8G8B8 (by_texel.rs).
 #![allow(dead_code)]
 
-use original::pixel_convert::{ConvertRegion, convert_region};
-
 use crate::{
+    by_texel,
     calls::ConvertCall,
-    common::{Region, Side, YuvSet},
-    rules::{self, A8R8G8B8, Texel},
+    common::YuvSet,
+    rules::{self, A8R8G8B8},
 };
 
 /// How many parts of a number of 16.16 make one.
@@ -82,45 +81,20 @@ pub fn near(set: &YuvSet, macropixel: &[u8], texels: &[u8]) -> bool {
 pub fn convert(call: &ConvertCall) -> (bool, Vec<u8>) {
     let mut dst = call.dst.clone();
     let accepted = call.conversion().reply() == 0;
-    if accepted && !rules::is_empty(&call.region) {
-        write(call, &mut dst);
+    if accepted {
+        by_texel::write(call, &mut dst, &colours(call), A8R8G8B8);
     }
     (accepted, dst)
 }
 
-/// Writes an accepted region that has texels, by slice, row and column.
-fn write(call: &ConvertCall, dst: &mut [u8]) {
-    let pitch = 4 * call.region.width as usize;
-    let region = Region {
-        source: Side {
-            pitch,
-            slice_pitch: pitch * call.region.height as usize,
-            ..Side::default()
-        },
-        ..call.region
-    };
-    let (picture, region) = (picture(call), ConvertRegion::from(&region));
-    assert!(
-        convert_region(dst, call.dst_format, &picture, A8R8G8B8, &region),
-        "the original refuses a picture of A8R8G8B8"
-    );
-}
-
-/// The region's colours as a picture of A8R8G8B8, without padding.
-fn picture(call: &ConvertCall) -> Vec<u8> {
+/// The region's colours as a row of A8R8G8B8.
+fn colours(call: &ConvertCall) -> Vec<u8> {
     let from = rules::find(call.src_format).expect("a source");
-    let (region, set) = (&call.region, call.conversion().set);
-    let mut picture = Vec::new();
-    for slice in 0..region.depth as u128 {
-        for row in 0..u128::from(region.height) {
-            for column in 0..u128::from(region.width) {
-                let texel = Texel { slice, row, column };
-                let places = rules::sample(region, from, texel).expect("a texel of YUV");
-                let sample = places.map(|at| call.src[at as usize]);
-                let [red, green, blue] = colour(&set, sample);
-                picture.extend([blue, green, red, 255]);
-            }
-        }
-    }
-    picture
+    let (source, set) = (call.conversion().region.source, call.conversion().set);
+    let colours = call.texels().flat_map(|texel| {
+        let places = source.sample(from, texel).expect("a texel of YUV");
+        let [red, green, blue] = colour(&set, places.map(|at| call.src[at as usize]));
+        [blue, green, red, 255]
+    });
+    colours.collect()
 }

@@ -8,7 +8,7 @@ use std::{collections::HashMap, sync::LazyLock};
 
 use crate::{
     calls::ConvertCall,
-    rules::{self, Format},
+    rules::{self, AnyRegion, Format},
 };
 use Lane::{Lacking, Signed, Unsigned};
 
@@ -138,7 +138,7 @@ pub fn near(format: &Format, texel: &[u8], bytes: &[u8]) -> bool {
 pub fn convert(call: &ConvertCall) -> (bool, Vec<u8>) {
     let mut dst = call.dst.clone();
     let accepted = call.conversion().reply() == 0;
-    if accepted && !rules::is_empty(&call.region) {
+    if accepted && !call.conversion().region.is_empty() {
         write(call, &mut dst);
     }
     (accepted, dst)
@@ -147,33 +147,12 @@ pub fn convert(call: &ConvertCall) -> (bool, Vec<u8>) {
 /// Writes an accepted region that has texels, by slice, row and column.
 fn write(call: &ConvertCall, dst: &mut [u8]) {
     let from = rules::find(call.src_format).expect("a source");
-    let region = &call.region;
-    for slice in 0..region.depth as u128 {
-        for row in 0..u128::from(region.height) {
-            for column in 0..u128::from(region.width) {
-                let start = offset([
-                    (slice, region.source.slice_pitch),
-                    (row + u128::from(region.source.y), region.source.pitch),
-                    (column + u128::from(region.source.x), from.bytes),
-                ]);
-                let channels = channels(from, &call.src[start..start + from.bytes]);
-                let bytes = channels.map(|it| NEAREST[&it.whole][it.part as usize]);
-                let start = offset([
-                    (slice, region.destination.slice_pitch),
-                    (
-                        row + u128::from(region.destination.y),
-                        region.destination.pitch,
-                    ),
-                    (column + u128::from(region.destination.x), bytes.len()),
-                ]);
-                dst[start..start + bytes.len()].copy_from_slice(&bytes);
-            }
-        }
+    let region = AnyRegion::from(&call.region);
+    for texel in region.texels() {
+        let start = region.source.texel(texel, from.bytes);
+        let channels = channels(from, &call.src[start..start + from.bytes]);
+        let bytes = channels.map(|it| NEAREST[&it.whole][it.part as usize]);
+        let start = region.destination.texel(texel, bytes.len());
+        dst[start..start + bytes.len()].copy_from_slice(&bytes);
     }
-}
-
-/// The sum of so many steps of so many bytes each: slices, rows, columns.
-fn offset(steps: [(u128, usize); 3]) -> usize {
-    let offset = steps.map(|(count, bytes)| count * bytes as u128);
-    usize::try_from(offset.iter().sum::<u128>()).expect("a texel inside its buffer")
 }

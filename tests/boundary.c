@@ -45,7 +45,7 @@ static bool planar(const WentuqisPlanarYuvLayout *found, uint64_t pitch, uint64_
 }
 
 /* Two texels of a row of four bytes into a row of eight; the source slice pitch suits no planar frame. */
-static const WentuqisRegion row = {{4, 3, 0, 0}, {8, 0, 0, 0}, 1, 2, 1};
+static const WentuqisRegion row = {{0, 4, 3, 0, 0}, {0, 8, 0, 0, 0}, 1, 2, 1};
 
 static void test_pairs(void)
 {
@@ -83,7 +83,7 @@ static void test_convert(void)
     static const uint8_t screen[8] = {1, 0, 1, 255, 255, 254, 255, 255};
     static const uint8_t map[4] = {0x7f, 0x01, 0x80, 0x40};
     static const uint8_t map_screen[8] = {255, 2, 255, 255, 255, 129, 0, 255};
-    static const WentuqisRegion empty = {{0, 0, 0, 0}, {0, 0, 0, 0}, 0, 0, 0};
+    static const WentuqisRegion empty = {{0, 0, 0, 0, 0}, {0, 0, 0, 0, 0}, 0, 0, 0};
     uint8_t dst[8];
 
     memset(dst, 9, sizeof dst);
@@ -97,32 +97,104 @@ static void test_convert(void)
           "convert_region: empty region, lengths 0");
 }
 
-/* Every field of a region has a value of its own: a texel of the second slice from column 2 of row 3 of a source to
- * column 1 of row 2 of a destination. */
+/* Every field of a region has a value of its own: a texel of the second slice from column 2 of row 3 of a source that
+ * starts at byte 4 to column 1 of row 2 of a destination that starts at byte 7. */
 static void test_fields_of_a_region(void)
 {
-    WentuqisRegion region = {{5, 40, 2, 3}, {6, 50, 1, 2}, 2, 3, 1};
-    uint8_t src[60], dst[66];
+    WentuqisRegion region = {{4, 5, 40, 2, 3}, {7, 6, 50, 1, 2}, 2, 3, 1};
+    uint8_t src[64], dst[73];
 
     for (size_t i = 0; i < sizeof src; i++) {
         src[i] = (uint8_t)(i + 1);
     }
     memset(dst, 0, sizeof dst);
-    check(wentuqis_convert_region(dst, sizeof dst, WENTUQIS_FMT_L8, src, 59, WENTUQIS_FMT_L8, &region)
+    check(wentuqis_convert_region(dst, sizeof dst, WENTUQIS_FMT_L8, src, 63, WENTUQIS_FMT_L8, &region)
               == WENTUQIS_SOURCE_OUTSIDE,
           "region: source one byte short");
-    check(wentuqis_convert_region(dst, 65, WENTUQIS_FMT_L8, src, sizeof src, WENTUQIS_FMT_L8, &region)
+    check(wentuqis_convert_region(dst, 72, WENTUQIS_FMT_L8, src, sizeof src, WENTUQIS_FMT_L8, &region)
               == WENTUQIS_DESTINATION_OUTSIDE,
           "region: destination one byte short");
     check(all(dst, sizeof dst, 0), "region: refused, dst is kept");
     check(wentuqis_convert_region(dst, sizeof dst, WENTUQIS_FMT_L8, src, sizeof src, WENTUQIS_FMT_L8, &region)
               == WENTUQIS_ACCEPTED,
           "region: accepted");
-    /* slice z, column x of the region: from 40 z + 5 * 3 + 2 + x to 50 z + 6 * 2 + 1 + x */
+    /* slice z, column x of the region: from 4 + 40 z + 5 * 3 + 2 + x to 7 + 50 z + 6 * 2 + 1 + x */
     for (size_t i = 0; i < sizeof dst; i++) {
-        bool first = i >= 13 && i < 16, second = i >= 63;
-        check(dst[i] == (first ? i + 5 : second ? i - 5 : 0), "region: bytes");
+        bool first = i >= 20 && i < 23, second = i >= 70;
+        check(dst[i] == (first ? i + 2 : second ? i - 8 : 0), "region: bytes");
     }
+}
+
+/* Pictures of two rows of two texels of L8, a byte of padding each, stored bottom row first on one side or on both. */
+static void test_bottom_up(void)
+{
+    static const uint8_t grab[6] = {3, 4, 9, 1, 2, 9}, upright[6] = {1, 2, 0, 3, 4, 0}, over[6] = {3, 4, 0, 1, 2, 0};
+    const WentuqisSide up = wentuqis_bottom_up(3, 2), none = wentuqis_bottom_up(7, 0);
+    const WentuqisSide most = wentuqis_bottom_up(UINT32_MAX, UINT32_MAX), flat = {0, 3, 0, 0, 0};
+    WentuqisRegion region = {{0, 0, 0, 0, 0}, {0, 0, 0, 0, 0}, 1, 2, 2};
+    uint8_t dst[6];
+
+    check(up.start == 3 && up.pitch == -3, "bottom_up: start and pitch");
+    check(up.slice_pitch == 0 && up.x == 0 && up.y == 0, "bottom_up: zeros");
+    check(none.start == 0 && none.pitch == -7, "bottom_up: no rows");
+    check(most.start == UINT64_C(0xfffffffd00000002) && most.pitch == -INT64_C(0xffffffff), "bottom_up: the greatest");
+
+    region.source = up;
+    region.destination = flat;
+    memset(dst, 0, sizeof dst);
+    check(wentuqis_convert_region(dst, 5, WENTUQIS_FMT_L8, grab, 5, WENTUQIS_FMT_L8, &region) == WENTUQIS_ACCEPTED,
+          "bottom up: accepted, of the least lengths");
+    check(memcmp(dst, upright, sizeof dst) == 0, "bottom up: source");
+    check(wentuqis_convert_region(dst, 5, WENTUQIS_FMT_L8, grab, 4, WENTUQIS_FMT_L8, &region)
+              == WENTUQIS_SOURCE_OUTSIDE,
+          "bottom up: source one byte short");
+    region.source.start = 2;
+    check(wentuqis_convert_region(dst, 5, WENTUQIS_FMT_L8, grab, 6, WENTUQIS_FMT_L8, &region)
+              == WENTUQIS_SOURCE_OUTSIDE,
+          "bottom up: a source byte below 0");
+    check(memcmp(dst, upright, sizeof dst) == 0, "bottom up: refused, dst is kept");
+
+    region.source = flat;
+    region.destination = up;
+    memset(dst, 0, sizeof dst);
+    check(wentuqis_convert_region(dst, 5, WENTUQIS_FMT_L8, upright, 5, WENTUQIS_FMT_L8, &region) == WENTUQIS_ACCEPTED,
+          "bottom up: accepted");
+    check(memcmp(dst, over, sizeof dst) == 0, "bottom up: destination");
+    region.destination.start = 2;
+    check(wentuqis_convert_region(dst, 6, WENTUQIS_FMT_L8, upright, 6, WENTUQIS_FMT_L8, &region)
+              == WENTUQIS_DESTINATION_OUTSIDE,
+          "bottom up: a destination byte below 0");
+    check(memcmp(dst, over, sizeof dst) == 0, "bottom up: refused, dst is kept");
+
+    /* 2^64 - 1 + 1 - 2^24 * 2^40 is 0 */
+    region.source = (WentuqisSide){UINT64_MAX, -(INT64_C(1) << 40), 0, 1, UINT32_C(1) << 24};
+    region.destination = flat;
+    region.width = region.height = 1;
+    check(wentuqis_convert_region(dst, 1, WENTUQIS_FMT_L8, grab, 1, WENTUQIS_FMT_L8, &region) == WENTUQIS_ACCEPTED
+              && dst[0] == 3,
+          "bottom up: parts of a place that cancel");
+}
+
+/* Planar frames of two by two texels behind a byte; the last V is the last byte. */
+static void test_planar_start(void)
+{
+    static const uint8_t frame[7] = {9, 16, 16, 235, 235, 128, 128};
+    static const uint8_t screen[8] = {1, 0, 1, 255, 1, 0, 1, 255};
+    WentuqisRegion region = {{1, 2, 4, 0, 0}, {0, 8, 0, 0, 0}, 1, 2, 2};
+    uint8_t dst[16];
+
+    memset(dst, 9, sizeof dst);
+    check(wentuqis_convert_region(dst, 16, WENTUQIS_FMT_A8R8G8B8, frame, 6, WENTUQIS_FMT_NV12, &region)
+              == WENTUQIS_SOURCE_OUTSIDE,
+          "planar start: source one byte short");
+    check(wentuqis_convert_region(dst, 16, WENTUQIS_FMT_A8R8G8B8, frame, 7, WENTUQIS_FMT_NV12, &region)
+              == WENTUQIS_ACCEPTED,
+          "planar start: accepted");
+    check(memcmp(dst, screen, sizeof screen) == 0, "planar start: bytes");
+    region.source.pitch = -2;
+    check(wentuqis_convert_region(dst, 16, WENTUQIS_FMT_A8R8G8B8, frame, 7, WENTUQIS_FMT_NV12, &region)
+              == WENTUQIS_PLANAR_SHAPE,
+          "planar start: a negative pitch");
 }
 
 /* The same conversion with YUV by a set. */
@@ -354,6 +426,8 @@ int main(void)
     test_pairs();
     test_convert();
     test_fields_of_a_region();
+    test_bottom_up();
+    test_planar_start();
     test_named_sets();
     test_convert_with_set();
     test_fill();

@@ -217,6 +217,20 @@ static void bound(WentuqisRegion *region)
     region->depth = 1;
 }
 
+/* Gives a side of so many rows a start, and stores it bottom row first once in two times if it may be; the start's
+ * bytes. */
+static size_t turn(WentuqisSide *side, size_t rows, bool may_turn)
+{
+    const size_t room = below(3) ? 0 : below(8);
+
+    side->start = room;
+    if (may_turn && below(2)) {
+        side->start += (rows ? rows - 1 : 0) * (uint64_t)side->pitch;
+        side->pitch = -side->pitch;
+    }
+    return room;
+}
+
 /* A conversion: a region that fits its buffers, of which some have parameters or lengths changed. */
 static void convert(bool with_set)
 {
@@ -242,37 +256,44 @@ static void convert(bool with_set)
     columns = (size_t)region.source.x + region.width;
     rows = (size_t)region.source.y + region.height;
     if (planar) {
-        region.source.pitch = (columns + 1) / 2 * 2 + 2 * (size_t)below(4);
+        const size_t pitch = (columns + 1) / 2 * 2 + 2 * (size_t)below(4);
+
         rows = (rows + 1) / 2 * 2;
-        region.source.slice_pitch = region.source.pitch * rows;
-        src_len = region.source.slice_pitch + region.source.pitch * (rows / 2);
+        region.source.pitch = (int64_t)pitch;
+        region.source.slice_pitch = pitch * rows;
+        src_len = pitch * (rows + rows / 2);
     } else {
-        region.source.pitch = (columns + 1) / 2 * 2 * source[1] + below(6);
-        region.source.slice_pitch = region.source.pitch * rows + below(6);
+        const size_t pitch = (columns + 1) / 2 * 2 * source[1] + below(6);
+
+        region.source.pitch = (int64_t)pitch;
+        region.source.slice_pitch = pitch * rows + below(6);
         src_len = region.source.slice_pitch * region.depth;
     }
+    src_len += turn(&region.source, rows, !planar);
     columns = (size_t)region.destination.x + region.width;
     rows = (size_t)region.destination.y + region.height;
-    region.destination.pitch = columns * destination[1] + below(6);
-    region.destination.slice_pitch = region.destination.pitch * rows + below(6);
-    dst_len = region.destination.slice_pitch * region.depth;
+    region.destination.pitch = (int64_t)(columns * destination[1] + below(6));
+    region.destination.slice_pitch = (size_t)region.destination.pitch * rows + below(6);
+    dst_len = region.destination.slice_pitch * region.depth + turn(&region.destination, rows, true);
 
     for (uint32_t changes = below(2) ? 0 : 1 + below(3); changes; changes--) {
-        switch (below(15)) {
+        switch (below(17)) {
         case 0: src_format = any_code(); break;
         case 1: dst_format = any_code(); break;
         case 2: src_len = length_near(src_len); break;
         case 3: dst_len = length_near(dst_len); break;
-        case 4: region.source.pitch = (size_t)change(region.source.pitch, 64); break;
+        case 4: region.source.pitch = (int64_t)change((uint64_t)region.source.pitch, 64); break;
         case 5: region.source.slice_pitch = (size_t)change(region.source.slice_pitch, 64); break;
-        case 6: region.destination.pitch = (size_t)change(region.destination.pitch, 64); break;
+        case 6: region.destination.pitch = (int64_t)change((uint64_t)region.destination.pitch, 64); break;
         case 7: region.destination.slice_pitch = (size_t)change(region.destination.slice_pitch, 64); break;
         case 8: region.depth = (size_t)change(region.depth, 64); break;
         case 9: region.source.x = (uint32_t)change(region.source.x, 32); break;
         case 10: region.source.y = (uint32_t)change(region.source.y, 32); break;
         case 11: region.destination.x = (uint32_t)change(region.destination.x, 32); break;
         case 12: region.destination.y = (uint32_t)change(region.destination.y, 32); break;
-        case 13: region.width = (uint32_t)change(region.width, 32); break;
+        case 13: region.source.start = change(region.source.start, 64); break;
+        case 14: region.destination.start = change(region.destination.start, 64); break;
+        case 15: region.width = (uint32_t)change(region.width, 32); break;
         default: region.height = (uint32_t)change(region.height, 32); break;
         }
     }

@@ -372,24 +372,43 @@ static size_t row_bytes(struct format of, size_t texels)
     return is_packed(of.code) ? (texels + 1) / 2 * 4 : is_planar(of.code) ? (texels + 1) / 2 * 2 : texels * of.bytes;
 }
 
+/* Gives a side a start, and stores it bottom row first once in two times if it may be. */
+static void turn(WentuqisSide *side, const WentuqisRegion *region, bool may_turn)
+{
+    side->start = padding();
+    if (may_turn && below(2) != 0) {
+        side->start += (side->y + region->height - 1) * (uint64_t)side->pitch;
+        side->pitch = -side->pitch;
+    }
+}
+
 /* One past the last byte that the region needs on this side, whose format is not planar. */
 static size_t linear_length(const WentuqisSide *side, const WentuqisRegion *region, struct format of)
 {
-    return (region->depth - 1) * side->slice_pitch + (side->y + region->height - 1) * side->pitch
+    uint32_t highest = side->y + (side->pitch < 0 ? 0 : region->height - 1);
+
+    return (size_t)side->start + (region->depth - 1) * side->slice_pitch + (size_t)(highest * side->pitch)
            + row_bytes(of, side->x + region->width);
+}
+
+/* The first byte that the region needs on this side, which is stored bottom row first. */
+static uint64_t lowest(const WentuqisSide *side, const WentuqisRegion *region, struct format of)
+{
+    return side->start + (uint64_t)((side->y + region->height - 1) * side->pitch)
+           + (is_packed(of.code) ? side->x / 2 * 4 : side->x * of.bytes);
 }
 
 /* The same of a planar source: luma, or the later of U and V. */
 static size_t planar_length(const WentuqisSide *side, const WentuqisRegion *region, uint32_t code)
 {
-    size_t luma_rows = side->slice_pitch / side->pitch, chroma_rows = (luma_rows + 1) / 2;
+    size_t pitch = (size_t)side->pitch, luma_rows = side->slice_pitch / pitch, chroma_rows = (luma_rows + 1) / 2;
     size_t x = side->x + region->width - 1, y = side->y + region->height - 1;
-    size_t chroma = side->slice_pitch + 1;
+    size_t chroma = (size_t)side->start + side->slice_pitch + 1;
 
     if (code == WENTUQIS_FMT_NV12) {
-        chroma += y / 2 * side->pitch + 2 * (x / 2) + 1;
+        chroma += y / 2 * pitch + 2 * (x / 2) + 1;
     } else {
-        chroma += (y / 2 + chroma_rows) * (side->pitch / 2) + x / 2;
+        chroma += (y / 2 + chroma_rows) * (pitch / 2) + x / 2;
     }
     return chroma;
 }
@@ -400,9 +419,9 @@ static void damage_region(WentuqisRegion *region)
     WentuqisSide *side = below(2) != 0 ? &region->source : &region->destination;
     uint64_t number = any_number();
 
-    switch (below(8)) {
+    switch (below(9)) {
     case 0:
-        side->pitch = (size_t)number;
+        side->pitch = (int64_t)number;
         break;
     case 1:
         side->slice_pitch = (size_t)number;
@@ -421,6 +440,9 @@ static void damage_region(WentuqisRegion *region)
         break;
     case 6:
         region->height = (uint32_t)number;
+        break;
+    case 7:
+        side->start = number;
         break;
     default:
         source_format = (uint32_t)number;
@@ -448,7 +470,8 @@ static void conversion(void)
     WentuqisRegion region;
     WentuqisYuvSet set = WENTUQIS_BT709;
     bool with_set = below(2) != 0, is_yuv;
-    size_t src_length, dst_length, luma_rows;
+    size_t src_length, dst_length, luma_rows, pitch;
+    uint64_t below_it;
     uint32_t reply;
 
     do {
@@ -466,21 +489,23 @@ static void conversion(void)
     region.source.y = (uint32_t)below(4);
     region.destination.x = (uint32_t)below(4);
     region.destination.y = (uint32_t)below(4);
-    region.destination.pitch = row_bytes(to, region.destination.x + region.width) + padding();
-    region.destination.slice_pitch =
-        region.destination.pitch * (region.destination.y + region.height) + padding();
-    region.source.pitch = row_bytes(from, region.source.x + region.width);
+    pitch = row_bytes(to, region.destination.x + region.width) + padding();
+    region.destination.pitch = (int64_t)pitch;
+    region.destination.slice_pitch = pitch * (region.destination.y + region.height) + padding();
+    turn(&region.destination, &region, true);
+    pitch = row_bytes(from, region.source.x + region.width) + (is_planar(from.code) ? 2 * below(4) : padding());
+    region.source.pitch = (int64_t)pitch;
     if (is_planar(from.code)) {
-        region.source.pitch += 2 * below(4);
         luma_rows = region.source.y + region.height + below(3);
         if (from.code == WENTUQIS_FMT_YV12) {
             luma_rows += luma_rows % 2;
         }
-        region.source.slice_pitch = region.source.pitch * luma_rows;
+        region.source.slice_pitch = pitch * luma_rows;
+        turn(&region.source, &region, false);
         src_length = planar_length(&region.source, &region, from.code);
     } else {
-        region.source.pitch += padding();
-        region.source.slice_pitch = region.source.pitch * (region.source.y + region.height) + padding();
+        region.source.slice_pitch = pitch * (region.source.y + region.height) + padding();
+        turn(&region.source, &region, true);
         src_length = linear_length(&region.source, &region, from);
     }
     dst_length = linear_length(&region.destination, &region, to);
@@ -496,6 +521,21 @@ static void conversion(void)
     lent[0].length = dst_length - 1;
     check(converted(with_set) == WENTUQIS_DESTINATION_OUTSIDE, "a destination one byte short");
     lent[0].length = dst_length;
+    if (region.source.pitch < 0) {
+        below_it = lowest(&region.source, &region, from) + 1;
+        region.source.start -= below_it;
+        lend_copy(2, &region, sizeof region);
+        check(converted(with_set) == WENTUQIS_SOURCE_OUTSIDE, "a source byte below 0");
+        region.source.start += below_it;
+    }
+    if (region.destination.pitch < 0) {
+        below_it = lowest(&region.destination, &region, to) + 1;
+        region.destination.start -= below_it;
+        lend_copy(2, &region, sizeof region);
+        check(converted(with_set) == WENTUQIS_DESTINATION_OUTSIDE, "a destination byte below 0");
+        region.destination.start += below_it;
+    }
+    lend_copy(2, &region, sizeof region);
     if (with_set) {
         set.u_to_blue = (uint32_t)any_number();
         lend_copy(3, &set, sizeof set);

@@ -161,19 +161,19 @@ static bool holds(uint8_t *bytes, uint64_t length, const uint8_t *before, const 
 static bool buffers(const uint8_t *record)
 {
     const uint32_t call = (uint32_t)number(record, 4);
-    const uint8_t *const areas[5] = {record + 128, record + 200, record + 272, record + 344, record + 416};
-    uint64_t p[15];
+    const uint8_t *const areas[5] = {record + 144, record + 216, record + 288, record + 360, record + 432};
+    uint64_t p[17];
     uint8_t *first, *second, *third;
     uint32_t reply = 0;
     bool kept;
 
-    for (size_t i = 0; i < 15; i++) {
+    for (size_t i = 0; i < 17; i++) {
         p[i] = number(record + 8 + 8 * i, 8);
     }
     if (call == 25 || call == 30) {
-        const WentuqisRegion region = {{(size_t)p[10], (size_t)p[12], (uint32_t)p[4], (uint32_t)p[5]},
-                                       {(size_t)p[11], (size_t)p[13], (uint32_t)p[6], (uint32_t)p[7]},
-                                       (size_t)p[14], (uint32_t)p[8], (uint32_t)p[9]};
+        const WentuqisRegion region = {{p[4], (int64_t)p[5], (size_t)p[6], (uint32_t)p[7], (uint32_t)p[8]},
+                                       {p[9], (int64_t)p[10], (size_t)p[11], (uint32_t)p[12], (uint32_t)p[13]},
+                                       (size_t)p[14], (uint32_t)p[15], (uint32_t)p[16]};
         const uint32_t dst_format = (uint32_t)p[2], src_format = (uint32_t)p[3];
         uint32_t n[7];
         WentuqisYuvSet set;

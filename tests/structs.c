@@ -13,6 +13,7 @@
 int main(void)
 {
     STRUCT("Side", WentuqisSide);
+    FIELD("Side", WentuqisSide, start);
     FIELD("Side", WentuqisSide, pitch);
     FIELD("Side", WentuqisSide, slice_pitch);
     FIELD("Side", WentuqisSide, x);

@@ -51,7 +51,7 @@ macro_rules! lines {
 
 fn rust_structs() -> Structs {
     Structs::from([
-        lines!("Side", Side, pitch slice_pitch x y),
+        lines!("Side", Side, start pitch slice_pitch x y),
         lines!("ConvertRegion", Region, source destination depth width height),
         lines!(
             "YuvSet", YuvSet,

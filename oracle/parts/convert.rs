@@ -7,7 +7,7 @@ use crate::{
         pairs, texel_bytes, tie, yuv_pairs,
     },
     checks::{Checks, spread},
-    common::{Region, Side, XorShift, random_bytes, whole_frame},
+    common::{Region, Side, XorShift, flat, random_bytes, whole_frame},
     rules::{self, FORMATS, Format, Kind, NV12, YV12, named},
 };
 
@@ -150,19 +150,28 @@ fn overlaps(random: &mut XorShift, pairs: &[Pair], check: &mut dyn FnMut(Convert
                 depth,
             ];
             let mut region = ConvertCall::accepted(random, from, to, extent).region;
-            let mut shrink = |size: &mut usize| {
-                if !random.one_in(3) {
-                    *size = random.below(*size as u64 + 1) as usize;
-                }
-            };
-            shrink(&mut region.destination.pitch);
-            shrink(&mut region.destination.slice_pitch);
+            region.destination = close(random, region.destination);
             if from.kind != Kind::PlanarYuv {
-                shrink(&mut region.source.pitch);
-                shrink(&mut region.source.slice_pitch);
+                region.source = close(random, region.source);
             }
             check(ConvertCall::exact(random, from, to, region));
         }
+    }
+}
+
+/// A side whose rows and slices overlap, two times of three each.
+fn close(random: &mut XorShift, side: Side) -> Side {
+    let mut shrunk = |size: usize| {
+        if random.one_in(3) {
+            size
+        } else {
+            random.below(size as u64 + 1) as usize
+        }
+    };
+    Side {
+        pitch: shrunk(side.pitch as usize) as i64,
+        slice_pitch: shrunk(side.slice_pitch),
+        ..side
     }
 }
 
@@ -186,7 +195,7 @@ pub fn yuv_rows(random: &mut XorShift, mut check: impl FnMut(ConvertCall)) {
                 let close = random.below(u64::from(width) * to.bytes as u64) as usize;
                 for (pitch, slice_pitch) in [
                     (0, region.destination.slice_pitch),
-                    (close, random.below(3 * close as u64 + 1) as usize),
+                    (close as i64, random.below(3 * close as u64 + 1) as usize),
                     (region.destination.pitch, 0),
                 ] {
                     let region = Region {
@@ -222,8 +231,8 @@ fn limits(checks: &mut Checks, random: &mut XorShift) {
             for slice_pitch in EDGES64 {
                 for row in [0, 1, 2, 3, u32::MAX - 1, u32::MAX] {
                     for depth in [1, 2, 3, u64::MAX] {
-                        let numbers = [pitch, slice_pitch, depth].map(|it| it as usize);
-                        limit(checks, &call, numbers, row);
+                        let numbers = [slice_pitch, depth].map(|it| it as usize);
+                        limit(checks, &call, pitch, numbers, row);
                     }
                 }
             }
@@ -242,24 +251,41 @@ fn limits(checks: &mut Checks, random: &mut XorShift) {
     }
 }
 
-/// The numbers, pitch, slice pitch and depth, and the row of the origin, for the source, for the
-/// destination and for both.
-fn limit(checks: &mut Checks, call: &ConvertCall, numbers: [usize; 3], row: u32) {
-    let [pitch, slice_pitch, depth] = numbers;
+/// The pitch, the slice pitch and depth, and the row of the origin, for the source, for the
+/// destination and for both: as a flat region, and where the pitch has 64 bits as a negative one too.
+fn limit(
+    checks: &mut Checks,
+    call: &ConvertCall,
+    pitch: u64,
+    [slice_pitch, depth]: [usize; 2],
+    row: u32,
+) {
     for height in [1, 2] {
         for sides in 1..4 {
-            let mut call = call.clone();
-            let region = &mut call.region;
-            (region.height, region.depth) = (height, depth);
+            let mut flat = flat(&call.region);
+            (flat.height, flat.depth) = (height, depth);
             if sides & 1 != 0 {
-                (region.source.pitch, region.source.slice_pitch) = (pitch, slice_pitch);
-                region.source.y = row;
+                (flat.src_pitch, flat.src_slice_pitch, flat.src_y) =
+                    (pitch as usize, slice_pitch, row);
             }
             if sides & 2 != 0 {
-                (region.destination.pitch, region.destination.slice_pitch) = (pitch, slice_pitch);
-                region.destination.y = row;
+                (flat.dst_pitch, flat.dst_slice_pitch, flat.dst_y) =
+                    (pitch as usize, slice_pitch, row);
             }
-            checks.convert_region(&call);
+            checks.convert_flat(call, &flat);
+            if pitch >> 63 != 0 {
+                let mut call = call.clone();
+                call.region = flat.into();
+                for (side, of) in [
+                    (&mut call.region.source, 1),
+                    (&mut call.region.destination, 2),
+                ] {
+                    if sides & of != 0 {
+                        (side.pitch, side.slice_pitch) = (pitch as i64, slice_pitch);
+                    }
+                }
+                checks.convert_region(&call);
+            }
         }
     }
 }
@@ -280,8 +306,8 @@ fn endless(checks: &mut Checks, random: &mut XorShift) {
             let mut call = ConvertCall::accepted(random, named("A8"), named("A8"), [1, 1, 1]);
             let region = &mut call.region;
             (region.width, region.height, region.depth) = extent;
-            [region.source.pitch, region.destination.pitch] = pitches;
             [region.source.slice_pitch, region.destination.slice_pitch] = pitches;
+            [region.source.pitch, region.destination.pitch] = pitches.map(|it| it as i64);
             checks.convert_region(&call);
         }
     }
@@ -360,7 +386,8 @@ pub fn damaged(
 fn any_numbers(random: &mut XorShift, pairs: &[Pair]) -> ConvertCall {
     let mut call = ConvertCall::any(random, pairs);
     let mut side = || Side {
-        pitch: any64(random) as usize,
+        start: if random.one_in(2) { 0 } else { any64(random) },
+        pitch: any64(random) as i64,
         slice_pitch: any64(random) as usize,
         x: any32(random),
         y: any32(random),

@@ -11,7 +11,9 @@ mod rules;
 mod shapes;
 
 mod common {
-    pub use crate::shapes::{PlaneLayout as Planes, Region, Side, YuvSet};
+    pub use crate::shapes::{
+        ConvertRegion as FlatRegion, PlaneLayout as Planes, Region, Side, YuvSet,
+    };
 }
 
 /// These are the answers of the rules, not of the original.
@@ -111,10 +113,8 @@ pub mod pixel_convert {
 
     pub use crate::shapes::ConvertRegion;
     use crate::{
-        Colour, Lane,
-        common::Region,
-        lanes,
-        rules::{self, Conversion, FORMATS, Format, Kind, Texel},
+        Colour, Lane, lanes,
+        rules::{self, AnyRegion, AnySide, Conversion, FORMATS, Format, Kind, Texel},
         stretch_rect::yuv_to_rgb8,
     };
 
@@ -211,55 +211,46 @@ pub mod pixel_convert {
         src_format: u32,
         region: &ConvertRegion,
     ) -> bool {
-        let region = Region::from(*region);
+        let region = AnyRegion::from(region);
         let conversion = Conversion {
             dst_format,
             dst_length: dst.len(),
             src_format,
             src_length: src.len(),
-            region: &region,
+            region,
             set: rules::BT601,
         };
         let accepted = conversion.reply() == 0;
-        if accepted && !rules::is_empty(&region) {
+        if accepted {
             let of = |code| rules::find(code).expect("a format that converts");
-            write(dst, of(dst_format), src, of(src_format), &region);
+            if !region.is_empty() {
+                write(dst, of(dst_format), src, of(src_format), &region);
+            }
         }
         accepted
     }
 
     /// Writes an accepted region by slice, row and column.
-    fn write(dst: &mut [u8], to: &Format, src: &[u8], from: &Format, region: &Region) {
+    fn write(dst: &mut [u8], to: &Format, src: &[u8], from: &Format, region: &AnyRegion) {
         let to_lanes = &LANES[&to.code];
         let from_lanes = LANES.get(&from.code);
-        let (source, destination) = (&region.source, &region.destination);
-        for slice in 0..region.depth {
-            for row in 0..region.height {
-                for column in 0..region.width {
-                    let colour = match from_lanes {
-                        Some(lanes) => {
-                            let start = slice * source.slice_pitch
-                                + (source.y + row) as usize * source.pitch
-                                + (source.x + column) as usize * from.bytes;
-                            decode(lanes, &src[start..start + from.bytes])
-                        }
-                        None => yuv(src, from, region, [slice, row as usize, column as usize]),
-                    };
-                    let start = slice * destination.slice_pitch
-                        + (destination.y + row) as usize * destination.pitch
-                        + (destination.x + column) as usize * to.bytes;
-                    let word = encode(to_lanes, colour).to_le_bytes();
-                    dst[start..start + to.bytes].copy_from_slice(&word[..to.bytes]);
+        for texel in region.texels() {
+            let colour = match from_lanes {
+                Some(lanes) => {
+                    let start = region.source.texel(texel, from.bytes);
+                    decode(lanes, &src[start..start + from.bytes])
                 }
-            }
+                None => yuv(src, from, &region.source, texel),
+            };
+            let start = region.destination.texel(texel, to.bytes);
+            let word = encode(to_lanes, colour).to_le_bytes();
+            dst[start..start + to.bytes].copy_from_slice(&word[..to.bytes]);
         }
     }
 
-    fn yuv(src: &[u8], from: &Format, region: &Region, place: [usize; 3]) -> Colour {
+    fn yuv(src: &[u8], from: &Format, source: &AnySide, texel: Texel) -> Colour {
         assert!(matches!(from.kind, Kind::PackedYuv | Kind::PlanarYuv));
-        let [slice, row, column] = place.map(|it| it as u128);
-        let texel = Texel { slice, row, column };
-        let places = rules::sample(region, from, texel).expect("a texel inside");
+        let places = source.sample(from, texel).expect("a texel inside");
         let [luma, u, v] = places.map(|at| src[at as usize]);
         let (red, green, blue) = yuv_to_rgb8(luma, u, v);
         Colour {

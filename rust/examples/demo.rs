@@ -1,6 +1,7 @@
 //! What a viewer does with this crate, with pictures: a depth picture that is unpacked and packed
-//! again, a camera frame by BT.601 and by BT.709 that is shown in two screen formats, and a frame that
-//! is one byte short. Each result is checked; the exit status is 1 if one does not hold.
+//! again, also from a grab that is stored bottom row first, a camera frame by BT.601 and by BT.709
+//! that is shown in two screen formats, and a frame that is one byte short. Each result is checked; the
+//! exit status is 1 if one does not hold.
 //!
 //! usage: demo [FOLDER]   pictures go to FOLDER (default: out)
 
@@ -30,6 +31,7 @@ use plant_room::{CABINET_FRONT, Camera, TERMINAL_BOX};
 use wentuqis::Refused;
 use wentuqis::depth_texture::PlaneLayout;
 use wentuqis::format::{D3DFMT_A8R8G8B8, D3DFMT_D24S8, D3DFMT_R5G6B5};
+use wentuqis::pixel_convert::{Region, Side, YuvSet, convert};
 
 type Outcome = Result<(), Box<dyn Error>>;
 
@@ -81,9 +83,22 @@ fn depth_of_a_plant_room(folder: &Path) -> Outcome {
         after.padding()
     );
     line!("restored", "all {restored} pixels, depth and stencil");
+    let from_grab = read_from_grab(&before)?;
+    if before.same_pixels(&from_grab) != width * height {
+        return Err("a pixel of the grab is another one".into());
+    }
+    line!(
+        "grabbed bottom row first",
+        "and turned over, all pixels the same"
+    );
 
     let ends = [TERMINAL_BOX, CABINET_FRONT].map(|point| camera.pixel(point));
     let read = print_clearances(&camera, ends, &before, &after);
+    let grabbed = clearance(&camera, ends, |pixel| from_grab.metres(pixel));
+    line!("read from the grab", "{grabbed:.4} m");
+    if grabbed != read {
+        return Err("the grab has another clearance".into());
+    }
     let path = folder.join("plant_room.png");
     after.drawn(ends, read).write(&path)?;
     line!("picture", "{}", path.display());
@@ -101,6 +116,26 @@ fn packed_again(before: &DepthPicture) -> Result<DepthPicture, Refused> {
     let (packed, pitch) = (&mut after.bytes, after.pitch);
     layout.try_pack(D3DFMT_D24S8, &depth, &stencil, packed, pitch)?;
     Ok(after)
+}
+
+/// The picture by way of a grab of it that is stored bottom row first: turned over, unpacked and packed
+/// again. From A8R8G8B8 to itself a word keeps every bit, whatever it holds.
+fn read_from_grab(before: &DepthPicture) -> Result<DepthPicture, Refused> {
+    let (width, height) = (plant_room::WIDTH as u32, plant_room::HEIGHT as u32);
+    let grab = before.grabbed();
+    let mut upright = DepthPicture::empty(4 * plant_room::WIDTH);
+    let region = Region {
+        source: Side::bottom_up(before.pitch as u32, height),
+        destination: Side {
+            pitch: upright.pitch as i64,
+            ..Side::default()
+        },
+        ..Region::new(width, height)
+    };
+    let words = D3DFMT_A8R8G8B8;
+    let set = &YuvSet::BT601;
+    convert(&mut upright.bytes, words, &grab, words, &region, set)?;
+    packed_again(&upright)
 }
 
 /// Prints the clearance as read before and after, and as it would be read from 16 bits; the one that

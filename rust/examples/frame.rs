@@ -61,15 +61,15 @@ fn bars_frame(layout: &PlanarYuvLayout) -> Vec<u8> {
 
 /// Shows a frame of this layout by BT.709.
 fn show(screen: &mut [u8], frame: &[u8], layout: &PlanarYuvLayout) -> Result<(), Refused> {
-    let pitch = layout.pitch() as usize;
+    let pitch = layout.pitch();
     let region = Region {
         source: Side {
-            pitch,
-            slice_pitch: pitch * layout.luma_rows() as usize,
+            pitch: pitch.into(),
+            slice_pitch: pitch as usize * layout.luma_rows() as usize,
             ..Side::default()
         },
         destination: Side {
-            pitch: SCREEN_PITCH,
+            pitch: SCREEN_PITCH as i64,
             ..Side::default()
         },
         ..Region::new(WIDTH as u32, HEIGHT as u32)

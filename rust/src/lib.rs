@@ -20,8 +20,9 @@
 //! for two things: `can_convert`, `can_convert_update` and `planar_yuv_layout` are no `const fn`, and
 //! some `pub` items are left out (`PackedDepth::decode` and `encode`, and what has to do with Metal);
 //! README.md of the repository lists them. New beside them is [`pixel_convert::convert`], of a
-//! [`Region`](pixel_convert::Region) that says by side where its texels lie. Beside each call of the
-//! original that can refuse stands a `try_` form. Both answer [`Refused`]: the reason as [`Refusal`],
+//! [`Region`](pixel_convert::Region) that says by side where its texels lie, also in a picture that is
+//! [stored bottom row first](pixel_convert::Side::bottom_up). Beside each call of the original that can
+//! refuse stands a `try_` form. Both answer [`Refused`]: the reason as [`Refusal`],
 //! and a text that says what to mend. A refused call leaves every byte that it was lent, and no call
 //! reads or writes outside what it was lent. A reply without a name, which only an archive of another
 //! version gives, panics, but in the forms that answer `bool`.

@@ -15,6 +15,10 @@
 //! [`convert_region`] keeps; [`convert`] and [`convert_region_with_set`] take any, as
 //! [`YuvSet::BT709`].
 //!
+//! A [`Region`] says by [`Side`] from which byte on a picture lies and how far its rows are apart; with
+//! a negative pitch it is stored bottom row first, as screen grabs are. The original's
+//! [`ConvertRegion`] has neither.
+//!
 //! A conversion takes time that grows with width × height × depth, whatever the lengths of the
 //! buffers: with a pitch of 0 a region of any height fits into one row. Nothing is converted in
 //! place: source and destination are two slices.
@@ -140,10 +144,11 @@ pub fn try_convert_region(
     src_format: u32,
     region: &ConvertRegion,
 ) -> Result<(), Refused> {
-    let region = Region::from(*region);
-    let reply = ffi::convert_region(dst, dst_format, src, src_format, &region);
+    let sides = Region::from(*region);
+    let reply = ffi::convert_region(dst, dst_format, src, src_format, &sides);
     accepted(reply, || {
-        convert_call(dst, dst_format, src, src_format, &region)
+        let given = Given::flat(*region);
+        Call::Convert(ConvertCall::new(dst, dst_format, src, src_format, given))
     })
 }
 
@@ -235,14 +240,20 @@ pub fn try_convert_region_with_set(
     region: &ConvertRegion,
     numbers: &YuvSet,
 ) -> Result<(), Refused> {
-    let region = Region::from(*region);
-    convert(dst, dst_format, src, src_format, &region, numbers)
+    let sides = Region::from(*region);
+    let reply = ffi::convert_region_with_set(dst, dst_format, src, src_format, &sides, numbers);
+    accepted(reply, || {
+        let given = Given::flat(*region);
+        let call = ConvertCall::new(dst, dst_format, src, src_format, given);
+        with_set(call, reply, numbers)
+    })
 }
 
 /// Converts `region` of `src` into `dst`, YUV by the numbers of `set`.
 ///
 /// The same conversion as [`try_convert_region_with_set`], of a region that is described by its two
-/// sides. With a source that is not YUV the set is not looked at. The original has no such call.
+/// sides, which may start anywhere and be stored bottom row first. With a source that is not YUV the
+/// set is not looked at. The original has no such call.
 ///
 /// # Errors
 /// [`Refusal::UnsupportedPair`], [`Refusal::PlanarShape`], [`Refusal::IllegalSet`],
@@ -284,12 +295,19 @@ pub fn convert(
 ) -> Result<(), Refused> {
     let reply = ffi::convert_region_with_set(dst, dst_format, src, src_format, region, set);
     accepted(reply, || {
-        if reply == Refusal::IllegalSet.number() {
-            Call::Set(SetCall { numbers: *set })
-        } else {
-            convert_call(dst, dst_format, src, src_format, region)
-        }
+        let given = Given::BySides(*region);
+        let call = ConvertCall::new(dst, dst_format, src, src_format, given);
+        with_set(call, reply, set)
     })
+}
+
+/// What the text of a refusal by a set is made from.
+fn with_set(call: ConvertCall, reply: u32, set: &YuvSet) -> Call {
+    if reply == Refusal::IllegalSet.number() {
+        Call::Set(SetCall { numbers: *set })
+    } else {
+        Call::Convert(call)
+    }
 }
 
 impl YuvSet {
@@ -333,16 +351,6 @@ fn handed_back(call: impl FnOnce(&mut YuvSet)) -> YuvSet {
     };
     call(&mut set);
     set
-}
-
-fn convert_call(dst: &[u8], dst_format: u32, src: &[u8], src_format: u32, region: &Region) -> Call {
-    Call::Convert(ConvertCall {
-        dst_format,
-        dst_len: dst.len(),
-        src_format,
-        src_len: src.len(),
-        region: *region,
-    })
 }
 
 /// The largest gain and the largest luma offset of a set, in 65536ths.
@@ -391,6 +399,55 @@ impl SetCall {
     }
 }
 
+/// A region as it was given.
+#[derive(Clone, Copy, Debug, PartialEq, Eq, Hash)]
+enum Given {
+    BySides(Region),
+    /// A flat one with a pitch that no side has.
+    Flat(ConvertRegion),
+}
+
+impl Given {
+    fn flat(flat: ConvertRegion) -> Self {
+        if [flat.src_pitch, flat.dst_pitch]
+            .into_iter()
+            .all(|it| i64::try_from(it).is_ok())
+        {
+            Self::BySides(flat.into())
+        } else {
+            Self::Flat(flat)
+        }
+    }
+
+    fn region(&self) -> Region {
+        match *self {
+            Self::BySides(region) => region,
+            Self::Flat(flat) => flat.into(),
+        }
+    }
+
+    fn src_pitch(&self) -> i128 {
+        match *self {
+            Self::BySides(region) => region.source.pitch.into(),
+            Self::Flat(flat) => flat.src_pitch as i128,
+        }
+    }
+
+    fn src_slice_pitch(&self) -> usize {
+        match *self {
+            Self::BySides(region) => region.source.slice_pitch,
+            Self::Flat(flat) => flat.src_slice_pitch,
+        }
+    }
+
+    fn dst_pitch(&self) -> i128 {
+        match *self {
+            Self::BySides(region) => region.destination.pitch.into(),
+            Self::Flat(flat) => flat.dst_pitch as i128,
+        }
+    }
+}
+
 /// The arguments of a refused conversion.
 #[derive(Clone, Copy, Debug, PartialEq, Eq, Hash)]
 pub(crate) struct ConvertCall {
@@ -398,10 +455,20 @@ pub(crate) struct ConvertCall {
     dst_len: usize,
     src_format: u32,
     src_len: usize,
-    region: Region,
+    region: Given,
 }
 
 impl ConvertCall {
+    fn new(dst: &[u8], dst_format: u32, src: &[u8], src_format: u32, region: Given) -> Self {
+        Self {
+            dst_format,
+            dst_len: dst.len(),
+            src_format,
+            src_len: src.len(),
+            region,
+        }
+    }
+
     /// Writes what to mend.
     pub(crate) fn explain(&self, refusal: Refusal, f: &mut fmt::Formatter<'_>) -> fmt::Result {
         match refusal {
@@ -427,24 +494,29 @@ impl ConvertCall {
     }
 
     fn explain_shape(&self, f: &mut fmt::Formatter<'_>) -> fmt::Result {
-        let Region { source, depth, .. } = self.region;
-        let (pitch, slice_pitch) = (source.pitch, source.slice_pitch);
-        let src = Named(self.src_format);
+        let (pitch, slice_pitch) = (self.region.src_pitch(), self.region.src_slice_pitch());
+        let (src, depth) = (Named(self.src_format), self.region.region().depth);
         if depth != 1 {
             write!(
                 f,
                 "a frame of {src} has one slice, and the region has depth {depth}; set it to 1"
             )
-        } else if let Some(whole) = slice_pitch.checked_div(pitch) {
-            let rows = whole as u128 + 1;
-            let multiple = rows * pitch as u128;
+        } else if pitch < 0 {
+            write!(
+                f,
+                "the source pitch is {pitch}, and a frame of {src} is not stored bottom row first; \
+                 a negative destination pitch turns the picture over"
+            )
+        } else if pitch == 0 {
+            f.write_str("the source pitch is 0; set it to the bytes from a luma row to the next")
+        } else {
+            let rows = slice_pitch as i128 / pitch + 1;
+            let multiple = rows * pitch;
             write!(
                 f,
                 "the source slice pitch {slice_pitch} is no multiple of the source pitch {pitch}; \
                  {rows} luma rows have {multiple} bytes"
             )
-        } else {
-            f.write_str("the source pitch is 0; set it to the bytes from a luma row to the next")
         }
     }
 
@@ -457,10 +529,13 @@ impl ConvertCall {
             };
             return self.source(addressing).explain(f);
         }
-        let Side {
-            pitch, slice_pitch, ..
-        } = self.region.source;
-        let rows = slice_pitch.checked_div(pitch).unwrap_or(0);
+        // a planar source has a pitch above 0, of at most 64 bits
+        let pitch = self.region.src_pitch() as usize;
+        let rows = self
+            .region
+            .src_slice_pitch()
+            .checked_div(pitch)
+            .unwrap_or(0);
         if rows == 0 {
             return self.explain_slice_pitch(f);
         }
@@ -473,12 +548,12 @@ impl ConvertCall {
 
     /// Says which slice pitch a planar source needs that has 0.
     fn explain_slice_pitch(&self, f: &mut fmt::Formatter<'_>) -> fmt::Result {
-        let pitch = self.region.source.pitch;
+        let pitch = self.region.src_pitch();
         let mut rows = self.region_end();
         if self.src_format == D3DFMT_YV12 {
             rows = rows.next_multiple_of(2);
         }
-        let bytes = u128::from(rows) * pitch as u128;
+        let bytes = i128::from(rows) * pitch;
         write!(
             f,
             "the source slice pitch is 0; set it to pitch x luma rows, \
@@ -489,16 +564,17 @@ impl ConvertCall {
     /// Says what the slice pitch of a planar source is where it is as long as the whole frame, as if
     /// it counted the chroma rows.
     fn hint_at_chroma_rows(&self, f: &mut fmt::Formatter<'_>) -> fmt::Result {
-        let Side {
-            pitch, slice_pitch, ..
-        } = self.region.source;
-        if slice_pitch != self.src_len {
+        let (pitch, slice_pitch) = (
+            self.region.src_pitch() as u128,
+            self.region.src_slice_pitch() as u128,
+        );
+        if slice_pitch + u128::from(self.region.region().source.start) != self.src_len as u128 {
             return Ok(());
         }
-        let all_rows = (slice_pitch / pitch) as u128;
+        let all_rows = slice_pitch / pitch;
         let luma_rows = all_rows * 2 / 3;
         let chroma_rows = luma_rows.div_ceil(2);
-        let bytes = luma_rows * pitch as u128;
+        let bytes = luma_rows * pitch;
         if luma_rows + chroma_rows != all_rows || luma_rows < u128::from(self.region_end()) {
             return Ok(());
         }
@@ -511,28 +587,33 @@ impl ConvertCall {
 
     /// One past the last row of the source that the region has.
     fn region_end(&self) -> u64 {
-        u64::from(self.region.source.y) + u64::from(self.region.height)
+        let region = self.region.region();
+        u64::from(region.source.y) + u64::from(region.height)
     }
 
-    fn source(&self, addressing: Addressing) -> Buffer<'_> {
+    fn source(&self, addressing: Addressing) -> Buffer {
+        let region = self.region.region();
         Buffer {
             name: "frame",
             format: self.src_format,
             addressing,
             len: self.src_len,
-            side: &self.region.source,
-            region: &self.region,
+            side: region.source,
+            pitch: self.region.src_pitch(),
+            region,
         }
     }
 
-    fn destination(&self) -> Buffer<'_> {
+    fn destination(&self) -> Buffer {
+        let region = self.region.region();
         Buffer {
             name: "destination",
             format: self.dst_format,
             addressing: Addressing::Texels(bytes_per_texel(self.dst_format)),
             len: self.dst_len,
-            side: &self.region.destination,
-            region: &self.region,
+            side: region.destination,
+            pitch: self.region.dst_pitch(),
+            region,
         }
     }
 }
@@ -547,17 +628,29 @@ enum Addressing {
     Planes(PlanarYuvLayout),
 }
 
+/// Where a texel lies beside byte 0.
+enum Place {
+    /// It starts so many bytes below it.
+    Below(u128),
+    /// It ends so many bytes behind it.
+    Ends(u128),
+    /// It ends 2^128 bytes behind it, or more.
+    Beyond,
+}
+
 /// The source or the destination of a refused conversion.
-struct Buffer<'a> {
+struct Buffer {
     name: &'static str,
     format: u32,
     addressing: Addressing,
     len: usize,
-    side: &'a Side,
-    region: &'a Region,
+    side: Side,
+    /// The side's as it was given.
+    pitch: i128,
+    region: Region,
 }
 
-impl Buffer<'_> {
+impl Buffer {
     /// Says which texel lies outside, and how many bytes there are and are needed.
     fn explain(&self, f: &mut fmt::Formatter<'_>) -> fmt::Result {
         let (_, rows, columns) = self.extent();
@@ -586,15 +679,29 @@ impl Buffer<'_> {
     }
 
     fn explain_length(&self, f: &mut fmt::Formatter<'_>) -> fmt::Result {
-        write!(
-            f,
-            "the {} has {} bytes, the region needs ",
-            self.name, self.len
-        )?;
         let (slices, rows, columns) = self.extent();
-        match self.end(slices - 1, rows - 1, columns - 1) {
-            Some(needed) => write!(f, "{needed}")?,
-            None => f.write_str("2^128 or more")?,
+        let (low, high) = self.low_and_high(rows);
+        let (name, len) = (self.name, self.len);
+        match (
+            self.place(0, low, 0),
+            self.place(slices - 1, high, columns - 1),
+        ) {
+            (Place::Below(bytes), _) => {
+                let (start, pitch) = (u128::from(self.side.start), self.pitch);
+                let least = start + bytes;
+                write!(
+                    f,
+                    "the region's lowest texel starts {bytes} bytes below byte 0 of the {name}; with the \
+                     pitch {pitch} the start must be at least {least}, and it is {start}"
+                )?;
+            }
+            (_, Place::Ends(needed)) => {
+                write!(f, "the {name} has {len} bytes, the region needs {needed}")?;
+            }
+            _ => write!(
+                f,
+                "the {name} has {len} bytes, the region needs 2^128 or more"
+            )?,
         }
         let (slice, row, column) = self.first_outside();
         let (column, row) = (self.column(column), self.row(row));
@@ -612,7 +719,7 @@ impl Buffer<'_> {
             height,
             depth,
             ..
-        } = *self.region;
+        } = self.region;
         (
             depth.max(1) as u64,
             u64::from(height.max(1)),
@@ -628,37 +735,76 @@ impl Buffer<'_> {
         u64::from(self.side.y) + row
     }
 
-    /// The bytes that a buffer needs to hold this texel of the region; `None` past 128 bits.
+    /// The rows of the region that start lowest and highest.
+    fn low_and_high(&self, rows: u64) -> (u64, u64) {
+        if self.pitch < 0 {
+            (rows - 1, 0)
+        } else {
+            (0, rows - 1)
+        }
+    }
+
+    /// Where this texel of the region lies.
     ///
-    /// It never falls from one slice, row or column to the next.
-    fn end(&self, slice: u64, row: u64, column: u64) -> Option<u128> {
+    /// It moves one way from one slice, row or column to the next: back from row to row where the
+    /// pitch is negative, else on or not at all.
+    fn place(&self, slice: u64, row: u64, column: u64) -> Place {
         let (x, y) = (self.column(column), self.row(row));
-        let in_row = match &self.addressing {
-            Addressing::Planes(layout) => return Some(layout.end(self.format, x, y)),
-            Addressing::Texels(bytes) => (u128::from(x) + 1) * u128::from(*bytes),
-            Addressing::Macropixels => u128::from(x / 2 + 1) * 4,
+        let start = u128::from(self.side.start);
+        let (in_row, bytes) = match &self.addressing {
+            Addressing::Planes(layout) => {
+                return Place::Ends(start + layout.end(self.format, x, y));
+            }
+            Addressing::Texels(bytes) => (u128::from(x) * u128::from(*bytes), u128::from(*bytes)),
+            Addressing::Macropixels => (u128::from(x / 2) * 4, 4),
         };
-        let slice_start = u128::from(slice) * self.side.slice_pitch as u128;
-        let row_start = u128::from(y) * self.side.pitch as u128;
-        slice_start.checked_add(row_start)?.checked_add(in_row)
+        // start, slice and column alone stay below 2^128
+        let before = start + u128::from(slice) * self.side.slice_pitch as u128 + in_row;
+        let rows = u128::from(y) * self.pitch.unsigned_abs();
+        let first = if self.pitch >= 0 {
+            before.checked_add(rows)
+        } else if rows > before {
+            return Place::Below(rows - before);
+        } else {
+            Some(before - rows)
+        };
+        let end = first.and_then(|first| first.checked_add(bytes));
+        end.map_or(Place::Beyond, Place::Ends)
+    }
+
+    /// Whether this texel of the region does not fit the buffer.
+    fn is_outside(&self, slice: u64, row: u64, column: u64) -> bool {
+        match self.place(slice, row, column) {
+            Place::Ends(end) => end > self.len as u128,
+            Place::Below(_) | Place::Beyond => true,
+        }
     }
 
     /// The first texel, by slice, row and column of the region, that does not fit the buffer.
     fn first_outside(&self) -> (u64, u64, u64) {
-        let outside = |slice, row, column| {
-            self.end(slice, row, column)
-                .is_none_or(|end| end > self.len as u128)
-        };
         let (slices, rows, columns) = self.extent();
-        let slice = first(slices, |slice| outside(slice, rows - 1, columns - 1));
-        let row = first(rows, |row| outside(slice, row, columns - 1));
-        let column = first(columns, |column| outside(slice, row, column));
+        let (low, high) = self.low_and_high(rows);
+        let last = columns - 1;
+        let slice = first(slices, |slice| {
+            self.is_outside(slice, low, 0) || self.is_outside(slice, high, last)
+        });
+        let row = first(rows, |row| {
+            self.is_outside(slice, row, 0) || self.is_outside(slice, row, last)
+        });
+        let column = first(columns, |column| self.is_outside(slice, row, column));
         (slice, row, column)
     }
 }
 
-/// The least number below `count` that passes a test which all later numbers pass too.
+/// The least number below `count` that passes a test: 0, or else the first one from which on all
+/// numbers pass it.
+///
+/// The texels outside are those below byte 0 and those past the end, and the step that leads into
+/// the one leads out of the other: with the first texel inside there is one of the two left.
 fn first(count: u64, test: impl Fn(u64) -> bool) -> u64 {
+    if test(0) {
+        return 0;
+    }
     let (mut below, mut found) = (0, count);
     while below < found {
         let middle = below + (found - below) / 2;

@@ -26,14 +26,14 @@ use crate::planar_yuv::PlanarCall;
 pub enum Refusal {
     /// Conversion: `can_convert` is false for the two formats.
     UnsupportedPair = 1,
-    /// Conversion: a planar source with a depth other than 1, a source pitch of 0, or a source slice
-    /// pitch that is no multiple of it.
+    /// Conversion: a planar source with a depth other than 1, a source pitch of 0 or below, or a
+    /// source slice pitch that is no multiple of it.
     PlanarShape = 2,
-    /// Conversion: a texel needs a byte outside the source, lies outside its planar layout, or has a
-    /// column or row above 4294967295; or no planar layout exists.
+    /// Conversion: a texel needs a byte outside the source, past its end or below byte 0, lies outside
+    /// its planar layout, or has a column or row above 4294967295; or no planar layout exists.
     SourceOutside = 3,
-    /// Conversion: a texel needs a byte outside the destination, or has a column or row above
-    /// 4294967295.
+    /// Conversion: a texel needs a byte outside the destination, past its end or below byte 0, or has
+    /// a column or row above 4294967295.
     DestinationOutside = 4,
     /// Fill: the format has none.
     NoFill = 5,

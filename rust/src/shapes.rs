@@ -7,9 +7,12 @@
 /// Where the texels of a region lie in one of the two buffers.
 ///
 /// The texel in slice z, row y and column x of the region starts at byte
-/// z × `slice_pitch` + (`self.y` + y) × `pitch` + (`self.x` + x) × (bytes of a texel); a packed YUV
-/// texel needs its whole macropixel of four bytes. A pitch may be 0 or any other number. Of a planar
-/// source, `slice_pitch` is `pitch` × the number of luma rows.
+/// `start` + z × `slice_pitch` + (`self.y` + y) × `pitch` + (`self.x` + x) × (bytes of a texel),
+/// worked out as a true whole number; a packed YUV texel needs its whole macropixel of four bytes.
+/// A picture that is stored bottom row first has a negative pitch, and its start is the first byte
+/// of its top row, as [`bottom_up`](Self::bottom_up) says. A pitch may be 0 or any other number. Of
+/// a planar source the pitch is above 0, `slice_pitch` is `pitch` × the number of luma rows, and the
+/// whole frame counts from `start`.
 ///
 /// ```
 /// use wentuqis::pixel_convert::Side;
@@ -21,19 +24,63 @@
 ///     y: 2,
 ///     ..Side::default()
 /// };
-/// assert_eq!(side.slice_pitch, 0);
+/// assert_eq!((side.start, side.slice_pitch), (0, 0));
 /// ```
 #[derive(Clone, Copy, Debug, Default, PartialEq, Eq, Hash)]
 #[repr(C)]
 pub struct Side {
-    /// Bytes from a row to the next.
-    pub pitch: usize,
+    /// First byte of row 0 of slice 0, which is the top row, wherever it is stored.
+    pub start: u64,
+    /// Bytes from a row to the next; negative where the next row is stored before it.
+    pub pitch: i64,
     /// Bytes from a slice to the next.
     pub slice_pitch: usize,
     /// First column, in texels.
     pub x: u32,
     /// First row.
     pub y: u32,
+}
+
+impl Side {
+    /// A picture of `rows` rows of `row_bytes` bytes each, padding included, that is stored bottom
+    /// row first, from the buffer's first byte on.
+    ///
+    /// ```
+    /// use wentuqis::pixel_convert::Side;
+    ///
+    /// let grab = Side::bottom_up(2560, 480);
+    /// assert_eq!((grab.start, grab.pitch), (2560 * 479, -2560));
+    /// ```
+    ///
+    /// A grab that is turned upright:
+    ///
+    /// ```
+    /// use wentuqis::format::{D3DFMT_A8, D3DFMT_L8};
+    /// use wentuqis::pixel_convert::{Region, Side, YuvSet, convert};
+    ///
+    /// // Two rows of three texels and a byte of padding; the bottom row, 4 5 6, comes first.
+    /// let grab = [4, 5, 6, 0, 1, 2, 3, 0];
+    /// let region = Region {
+    ///     source: Side::bottom_up(4, 2),
+    ///     destination: Side { pitch: 3, ..Side::default() },
+    ///     ..Region::new(3, 2)
+    /// };
+    /// let mut upright = [0; 6];
+    /// convert(&mut upright, D3DFMT_L8, &grab, D3DFMT_L8, &region, &YuvSet::BT601)?;
+    /// assert_eq!(upright, [1, 2, 3, 4, 5, 6]);
+    /// # Ok::<(), wentuqis::Refused>(())
+    /// ```
+    #[must_use]
+    pub const fn bottom_up(row_bytes: u32, rows: u32) -> Self {
+        Self {
+            // neither passes its type: both factors have 32 bits
+            start: row_bytes as u64 * rows.saturating_sub(1) as u64,
+            pitch: -(row_bytes as i64),
+            slice_pitch: 0,
+            x: 0,
+            y: 0,
+        }
+    }
 }
 
 /// A region to convert: where it lies in source and destination, and its extent.
@@ -81,6 +128,7 @@ impl Region {
     #[must_use]
     pub const fn new(width: u32, height: u32) -> Self {
         const ZEROS: Side = Side {
+            start: 0,
             pitch: 0,
             slice_pitch: 0,
             x: 0,
@@ -144,7 +192,13 @@ pub struct ConvertRegion {
     pub depth: usize,
 }
 
-/// The same region.
+/// The same region, with both starts 0: every call replies to it as to the original's, and writes
+/// the same bytes.
+///
+/// A pitch of 2^63 or more, which no [`Side`] has, is held at 2^63 - 1. No slice of Rust has as many
+/// bytes as either, so that row 0 lies where it was, and every other row is outside as it was. Of one
+/// slice the source's slice pitch then becomes 0 where it is a multiple of the pitch, and else 1: only
+/// a planar source looks at it, and a frame with such a pitch has no layout.
 ///
 /// ```
 /// use wentuqis::pixel_convert::{ConvertRegion, Region};
@@ -152,18 +206,27 @@ pub struct ConvertRegion {
 /// let flat = ConvertRegion { src_x: 7, dst_pitch: 16, depth: 1, ..ConvertRegion::default() };
 /// let region = Region::from(flat);
 /// assert_eq!((region.source.x, region.destination.pitch, region.depth), (7, 16, 1));
+/// assert_eq!((region.source.start, region.destination.start), (0, 0));
 /// ```
 impl From<ConvertRegion> for Region {
     fn from(flat: ConvertRegion) -> Self {
+        let held = |pitch: usize| i64::try_from(pitch).unwrap_or(i64::MAX);
+        let src_slice_pitch = if i64::try_from(flat.src_pitch).is_err() && flat.depth == 1 {
+            usize::from(flat.src_slice_pitch % flat.src_pitch != 0)
+        } else {
+            flat.src_slice_pitch
+        };
         Self {
             source: Side {
-                pitch: flat.src_pitch,
-                slice_pitch: flat.src_slice_pitch,
+                start: 0,
+                pitch: held(flat.src_pitch),
+                slice_pitch: src_slice_pitch,
                 x: flat.src_x,
                 y: flat.src_y,
             },
             destination: Side {
-                pitch: flat.dst_pitch,
+                start: 0,
+                pitch: held(flat.dst_pitch),
                 slice_pitch: flat.dst_slice_pitch,
                 x: flat.dst_x,
                 y: flat.dst_y,

@@ -10,7 +10,7 @@ use wentuqis::convert::try_d3dcolor_fill_pixel_bytes;
 use wentuqis::depth_texture::PlaneLayout;
 use wentuqis::format::*;
 use wentuqis::pixel_convert::{
-    ConvertRegion, YuvSet, try_convert_region, try_convert_region_with_set,
+    ConvertRegion, Region, Side, YuvSet, convert, try_convert_region, try_convert_region_with_set,
 };
 use wentuqis::planar_yuv::{try_planar_yuv_layout, try_planar_yuv_layout_from_pitch};
 use wentuqis::{Refusal, Refused};
@@ -323,6 +323,148 @@ fn coordinates_and_lengths_past_their_bits() {
     );
 }
 
+/// What a conversion of a region by sides into A8R8G8B8 says, with buffers of these lengths.
+fn side_text([src_len, dst_len]: [usize; 2], src_format: u32, region: &Region) -> String {
+    let (src, mut dst) = (bytes(src_len), bytes(dst_len));
+    let (to, set) = (D3DFMT_A8R8G8B8, &YuvSet::BT601);
+    let reply = convert(&mut dst, to, &src, src_format, region, set);
+    assert_eq!(dst, bytes(dst_len));
+    text(reply)
+}
+
+/// A grab of L8 that is stored bottom row first, onto a screen.
+fn grab(width: u32, height: u32) -> Region {
+    Region {
+        source: Side::bottom_up(width, height),
+        destination: Side {
+            pitch: 4 * i64::from(width),
+            ..Side::default()
+        },
+        ..Region::new(width, height)
+    }
+}
+
+#[test]
+fn pictures_stored_bottom_row_first() {
+    let good = grab(5, 3);
+    // the row that is stored last is the top one
+    assert_eq!(
+        side_text([14, 60], D3DFMT_L8, &good),
+        "source outside: the frame has 14 bytes, the region needs 15; \
+         the first texel outside is column 4, row 0"
+    );
+    let low = but(good, |r| r.source.start = 9);
+    assert_eq!(
+        side_text([15, 60], D3DFMT_L8, &low),
+        "source outside: the region's lowest texel starts 1 bytes below byte 0 of the frame; with the \
+         pitch -5 the start must be at least 10, and it is 9; \
+         the first texel outside is column 0, row 2"
+    );
+    let none = but(good, |r| r.source.start = 0);
+    assert_eq!(
+        side_text([15, 60], D3DFMT_L8, &none),
+        "source outside: the region's lowest texel starts 10 bytes below byte 0 of the frame; with the \
+         pitch -5 the start must be at least 10, and it is 0; \
+         the first texel outside is column 0, row 1"
+    );
+    let screen = but(good, |r| {
+        (r.destination.start, r.destination.pitch) = (39, -20)
+    });
+    assert_eq!(
+        side_text([15, 60], D3DFMT_L8, &screen),
+        "destination outside: the region's lowest texel starts 1 bytes below byte 0 of the \
+         destination; with the pitch -20 the start must be at least 40, and it is 39; \
+         the first texel outside is column 0, row 2"
+    );
+    // with a slice on top of it, and no start of 64 bits that would do
+    let deep = but(good, |r| {
+        (r.source.slice_pitch, r.depth) = (15, 2);
+        r.destination.slice_pitch = 60;
+    });
+    assert_eq!(
+        side_text([29, 120], D3DFMT_L8, &deep),
+        "source outside: the frame has 29 bytes, the region needs 30; \
+         the first texel outside is column 4, row 0, slice 1"
+    );
+    let least = but(good, |r| (r.source.start, r.source.pitch) = (1, i64::MIN));
+    assert_eq!(
+        side_text([15, 60], D3DFMT_L8, &least),
+        "source outside: the region's lowest texel starts 18446744073709551615 bytes below byte 0 of \
+         the frame; with the pitch -9223372036854775808 the start must be at least \
+         18446744073709551616, and it is 1; the first texel outside is column 0, row 1"
+    );
+    let pair = but(grab(2, 2), |r| (r.source.pitch, r.source.start) = (-4, 3));
+    assert_eq!(
+        side_text([8, 16], D3DFMT_YUY2, &pair),
+        "source outside: the region's lowest texel starts 1 bytes below byte 0 of the frame; with the \
+         pitch -4 the start must be at least 4, and it is 3; \
+         the first texel outside is column 0, row 1"
+    );
+}
+
+#[test]
+fn starts() {
+    let late = but(grab(5, 3), |r| {
+        (r.source.start, r.source.pitch) = (u64::MAX, 5)
+    });
+    assert_eq!(
+        side_text([15, 60], D3DFMT_L8, &late),
+        "source outside: the frame has 15 bytes, the region needs 18446744073709551630; \
+         the first texel outside is column 0, row 0"
+    );
+    let planar = but(grab(4, 2), |r| {
+        (r.source.start, r.source.pitch, r.source.slice_pitch) = (3, 4, 8)
+    });
+    assert_eq!(
+        side_text([14, 32], D3DFMT_NV12, &planar),
+        "source outside: the frame has 14 bytes, the region needs 15; \
+         the first texel outside is column 2, row 0"
+    );
+    let whole = but(planar, |r| r.source.slice_pitch = 12);
+    assert_eq!(
+        side_text([15, 32], D3DFMT_NV12, &whole),
+        "source outside: the frame has 15 bytes, the region needs 19; \
+         the first texel outside is column 0, row 0; \
+         the slice pitch 12 is that of the whole frame, and without the chroma rows it is 4 x 2 = 8"
+    );
+}
+
+#[test]
+fn planar_frames_are_stored_top_row_first() {
+    for format in ["NV12", "YV12"] {
+        let code = u32::from_le_bytes(format.as_bytes().try_into().unwrap());
+        let frame = but(grab(4, 2), |r| r.source.slice_pitch = 8);
+        assert_eq!(
+            side_text([12, 32], code, &frame),
+            format!(
+                "planar shape: the source pitch is -4, and a frame of {format} is not stored bottom \
+                 row first; a negative destination pitch turns the picture over"
+            )
+        );
+    }
+}
+
+#[test]
+fn texts_of_pitches_past_63_bits_have_them() {
+    let half = 1_usize << 63;
+    let low = but(region(4, 2, half, 16), |r| r.src_slice_pitch = 7);
+    assert_eq!(
+        convert_text(32, 12, D3DFMT_NV12, &low),
+        "planar shape: the source slice pitch 7 is no multiple of the source pitch \
+         9223372036854775808; 1 luma rows have 9223372036854775808 bytes"
+    );
+    assert_eq!(
+        convert_text(32, 12, D3DFMT_NV12, &but(low, |r| r.src_slice_pitch = half)),
+        "source outside: no frame of NV12 has this pitch and slice pitch: \
+         the pitch is 1 to 16384, not 9223372036854775808"
+    );
+    assert_eq!(
+        convert_text(8, 8, D3DFMT_L8, &region(1, 3, half, 4)),
+        "source outside: the frame has 8 bytes, the region needs 18446744073709551617; \
+         the first texel outside is column 0, row 1"
+    );
+}
+
 #[test]
 fn fills() {
     assert_eq!(
@@ -465,48 +607,80 @@ fn refusals_are_errors() {
     assert_eq!(Refusal::from_number(16), None);
 }
 
-/// The number after "the region needs", if the text has one.
-fn needed(refused: &Refused) -> Option<usize> {
+/// The number after a word of the text and before the next mark, if the text has the word.
+fn number_after(refused: &Refused, word: &str) -> Option<u64> {
     let text = refused.to_string();
-    let (_, rest) = text.split_once("needs ")?;
-    let (number, _) = rest.split_once(';')?;
-    number.parse().ok()
+    let (_, rest) = text.split_once(word)?;
+    rest[..rest.find([';', ','])?].parse().ok()
 }
 
-/// Lends what the texts ask for until none does; one byte less must be refused for the same reason.
-fn mended(mut lens: [usize; 2], src_format: u32, region: &ConvertRegion) -> usize {
-    for count in 0.. {
-        let Err(refused) = reply(lens, src_format, region) else {
-            return count;
+/// Does what the texts ask for until none asks: lends so many bytes, starts so late. One byte less is
+/// refused for the same reason.
+fn mended(mut lens: [usize; 2], src_format: u32, mut region: Region) -> [usize; 2] {
+    let reply = |lens: [usize; 2], region: &Region| {
+        let (src, mut dst) = (bytes(lens[0]), bytes(lens[1]));
+        let (to, set) = (D3DFMT_A8R8G8B8, &YuvSet::BT601);
+        let reply = convert(&mut dst, to, &src, src_format, region, set);
+        assert!(reply.is_ok() || dst == bytes(lens[1]));
+        reply
+    };
+    let mut counts = [0; 2];
+    while let Err(refused) = reply(lens, &region) {
+        let of_source = refused.refusal == Refusal::SourceOutside;
+        let still = if let Some(needed) = number_after(&refused, "the region needs ") {
+            let (needed, len) = (needed as usize, &mut lens[usize::from(!of_source)]);
+            assert!(needed > *len, "{refused}");
+            counts[0] += 1;
+            *len = needed - 1;
+            let still = reply(lens, &region);
+            lens[usize::from(!of_source)] = needed;
+            still
+        } else if let Some(start) = number_after(&refused, "must be at least ") {
+            let side = |region: &mut Region, start| {
+                let of = if of_source {
+                    &mut region.source
+                } else {
+                    &mut region.destination
+                };
+                of.start = start;
+            };
+            counts[1] += 1;
+            side(&mut region, start - 1);
+            let still = reply(lens, &region);
+            side(&mut region, start);
+            still
+        } else {
+            return counts;
         };
-        let Some(needed) = needed(&refused) else {
-            return count;
-        };
-        let side = usize::from(refused.refusal == Refusal::DestinationOutside);
-        assert!(needed > lens[side], "{refused}");
-        lens[side] = needed - 1;
-        let still = reply(lens, src_format, region).unwrap_err();
-        assert_eq!(still.refusal, refused.refusal);
-        lens[side] = needed;
+        assert_eq!(still.unwrap_err().refusal, refused.refusal, "{refused}");
     }
-    unreachable!("each length is mended once")
+    counts
 }
 
 #[test]
-fn lending_what_a_text_asks_for_mends_it() {
+fn doing_what_a_text_asks_for_mends_it() {
     let yuv = [D3DFMT_YV12, D3DFMT_NV12, D3DFMT_YUY2, D3DFMT_UYVY];
     let texels = RGB.iter().chain(&TO_A8R8G8B8).map(|(format, _)| *format);
     let sources: Vec<u32> = texels.chain(yuv).collect();
     let mut numbers = Numbers::new(7);
-    let mut count = 0;
+    let mut counts = [0; 2];
     for _ in 0..20_000 {
-        let region = ConvertRegion {
+        let flat = ConvertRegion {
             depth: 1 + numbers.below(2) as usize,
             ..random_region(&mut numbers, false)
         };
+        let mut region = Region::from(flat);
+        for side in [&mut region.source, &mut region.destination] {
+            if numbers.below(3) == 0 {
+                side.pitch = -side.pitch;
+            }
+            side.start = numbers.below(3) * numbers.below(60);
+        }
         let src_format = sources[numbers.below(sources.len() as u64) as usize];
         let lens = [numbers.below(300) as usize, numbers.below(300) as usize];
-        count += mended(lens, src_format, &region);
+        let [lengths, starts] = mended(lens, src_format, region);
+        counts = [counts[0] + lengths, counts[1] + starts];
     }
-    assert!(count > 10_000, "{count} lengths were mended");
+    assert!(counts[0] > 10_000, "{counts:?} were mended");
+    assert!(counts[1] > 3_000, "{counts:?} were mended");
 }

@@ -1,6 +1,6 @@
 /*
- * What the archive for wasm64 takes from the program that links it, beside memcpy: three functions of its compiler's
- * runtime, which each call of the library begins and ends with, and a product, which clang's runtime has too.
+ * What the archive for wasm64 takes from the program that links it: three functions of its compiler's runtime, which
+ * each call of the library begins and ends with, and a product, which clang's runtime has too.
  */
 #include <stdint.h>
 

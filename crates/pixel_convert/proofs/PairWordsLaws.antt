@@ -1,20 +1,22 @@
 -- Laws on what specs/PairWords defines. Assumes nothing.
-use Rattle.std.specs.Prelude.{◌≡◌, true, List, length, get_or, ℕ, ◌+◌, ◌*◌, ◌/◌, ◌%◌, ◌≤◌, ◌<◌}
+use Rattle.std.specs.Prelude.{◌≡◌, true, List, length, get_or, ℕ, ◌+◌, ◌*◌, ◌/◌, ◌%◌, ◌≤◌, ◌<◌, false, pos, ◌+ℤ◌}
 use Rattle.std.proofs.Common.{sym, ap, ap₂, subst, ◌∙◌, ⊎_elim, add_assoc, add-mul, zero-mul, one-mul, arith}
 use Rattle.std.proofs.Math.Seq.{sets}
-use Rattle.words.proofs.IntegersLaws.{clamp_byte}
+use Rattle.words.proofs.IntegersLaws.{clamp_byte, up_pos}
 use Rattle.words.proofs.TestsLaws.{lt_or_eq}
 use Rattle.words.specs.Iterate.{iterate}
 use Rattle.words.proofs.IterateLaws.{iterate_zero, iterate_add, iterate_same}
+use Rattle.words.specs.Integers.{up}
 use Rattle.formats.specs.Codes.{A8R8G8B8}
 use Rattle.formats.specs.Lanes.{Channel, red, green, blue, alpha, luminance, depth, stencil, padding}
 use Rattle.formats.specs.Table.{bytes_of}
-use Rattle.formats.specs.Classes.{is_yuv}
+use Rattle.formats.specs.Classes.{is_yuv, is_packed_yuv, is_planar_yuv}
 use Rattle.channels.proofs.LuminanceLaws.{luminance_byte}
 use Rattle.texels.specs.Texels.{decoded_of, encoded_bytes, byte_of}
 use Rattle.texels.proofs.RestoredLaws.{word_keeps}
 use Rattle.texels.specs.Blocks.{word_written, word_of, WordsWritten}
-use Rattle.places.specs.Places.{texel_start}
+use Rattle.places.specs.Places.{place_of}
+use Rattle.places.proofs.InsideLaws.{along}
 use Rattle.stretch_rect.specs.declared.sets.YuvSet.{YuvSet}
 use Rattle.stretch_rect.specs.declared.Rgb.{Rgb}
 use Rattle.stretch_rect.specs.Yuv.{rgb_of}
@@ -30,8 +32,9 @@ use Rattle.pixel_convert.specs.Gathering.{luma_step, luma_gap, chroma_step, Pair
 use Rattle.pixel_convert.specs.Places.{format_of, luma_at, u_at, v_at, PlacesIn, After}
 use Rattle.pixel_convert.proofs.PlacesLaws.{after_none, after_more, by_places, by_numbers}
 use Rattle.pixel_convert.specs.Runs.{run_written}
-use Rattle.pixel_convert.specs.Samples.{luma_on, u_on, v_on, PairAt}
-use Rattle.pixel_convert.proofs.SamplesLaws.{samples_in, texel_samples, first_on, second_on, u_on_lem, v_on_lem}
+use Rattle.pixel_convert.proofs.RunsLaws.{run_room}
+use Rattle.pixel_convert.specs.Samples.{macro_start, luma_on, u_on, v_on, PairAt}
+use Rattle.pixel_convert.proofs.SamplesLaws.{macro_is, samples_in, texel_samples, first_on, second_on, u_by_half, v_by_half}
 use Rattle.pixel_convert.specs.PairWords.{run_word, run_from}
 
 module _ (l : Lines) (src : List ℕ) (f luma u v done n : ℕ) (was block : List ℕ) (read : ReadsPairs l src f (luma + done * luma_step f) (u + done * chroma_step f) (v + done * chroma_step f) n was block) where
@@ -122,44 +125,47 @@ unfolding word_on rgb_on joined
 word_texel l y u v = word_keeps (opaque_of (rgb_on l y u v)) (opaque_bytes (rgb_on l y u v) (clamp_byte _) (clamp_byte _) (clamp_byte _))
 
 module _ (numbers : YuvSet) (src : List ℕ) (m s d : ℕ) (r : ConvertRegion) (z row first pairs : ℕ) (fits : RowFits (length src) m s d r z row) (yuv : is_yuv s ≡ true)
-    (even : (r.source.x + first) % 2 ≡ 0) (within : first + 2 * pairs ≤ r.width) where
+    (even : (r.source.x + first) % 2 ≡ 0) (within : first + 2 * pairs ≤ r.width) (some : 0 < pairs) where
   -- ---- a run of pairs of a row
+  starts : is_planar_yuv s ≡ false → is_packed_yuv s ≡ true → place_of r.source 4 z (r.source.y + row) ((r.source.x + first) / 2) ≡ pos (macro_start s r.source z (r.source.y + row) (r.source.x + first))
+  starts = macro_is numbers src s r.source z (r.source.y + row) (r.source.x + first) yuv (fits.source first (omega (arith, within, some))).places
+
   abbrev x : ℕ
   x = r.source.x + first
 
   abbrev pub luma : ℕ
-  luma = luma_on s r.source.pitch r.source.slice_pitch z (r.source.y + row) x
+  luma = luma_on s r.source z (r.source.y + row) x
 
   abbrev pub u : ℕ
-  u = u_on s r.source.pitch r.source.slice_pitch z (r.source.y + row) x
+  u = u_on s r.source z (r.source.y + row) x
 
   abbrev pub v : ℕ
-  v = v_on s r.source.pitch r.source.slice_pitch z (r.source.y + row) x
+  v = v_on s r.source z (r.source.y + row) x
 
   -- the samples of texel j, worked out afresh and by the steps
-  luma_in_steps : (j : ℕ) → luma_on s r.source.pitch r.source.slice_pitch z (r.source.y + row) (x + j) ≡ luma + j % 2 * luma_gap s + j / 2 * luma_step s
+  luma_in_steps : (j : ℕ) → luma_on s r.source z (r.source.y + row) (x + j) ≡ luma + j % 2 * luma_gap s + j / 2 * luma_step s
   luma_in_steps j =
       ⊎_elim
       (λ e. let i : 2 * (j / 2) ≡ j = omega (arith, e) in
       let none : j % 2 * luma_gap s ≡ 0 * luma_gap s = ap (λ k. k * luma_gap s) (omega (arith, e)) in
       let same : luma + j / 2 * luma_step s ≡ luma + j % 2 * luma_gap s + j / 2 * luma_step s = omega (arith, none, zero-mul (luma_gap s)) in
-      ap (λ k. luma_on s r.source.pitch r.source.slice_pitch z (r.source.y + row) (x + k)) (sym i)
-      ∙ first_on s r.source.pitch r.source.slice_pitch z (r.source.y + row) x yuv even (j / 2) ∙ same)
+      ap (λ k. luma_on s r.source z (r.source.y + row) (x + k)) (sym i)
+      ∙ first_on s r.source z (r.source.y + row) x yuv even starts (j / 2) ∙ same)
       (λ e. let i : 2 * (j / 2) + 1 ≡ j = omega (arith, e) in
       let one : j % 2 * luma_gap s ≡ 1 * luma_gap s = ap (λ k. k * luma_gap s) e in
       let same : luma + luma_gap s + j / 2 * luma_step s ≡ luma + j % 2 * luma_gap s + j / 2 * luma_step s = omega (arith, one, one-mul (luma_gap s)) in
-      ap (λ k. luma_on s r.source.pitch r.source.slice_pitch z (r.source.y + row) (x + k)) (sym i)
-      ∙ second_on s r.source.pitch r.source.slice_pitch z (r.source.y + row) x yuv even (j / 2) ∙ same)
+      ap (λ k. luma_on s r.source z (r.source.y + row) (x + k)) (sym i)
+      ∙ second_on s r.source z (r.source.y + row) x yuv even starts (j / 2) ∙ same)
       (lt_or_eq (j % 2) 1 (omega arith))
 
-  half_of_lem : (j : ℕ) → (x + j) / 2 ≡ x / 2 + j / 2
-  half_of_lem j = omega (arith, even)
+  half_on : (j : ℕ) → (x + j) / 2 ≡ x / 2 + j / 2
+  half_on j = omega (arith, even)
 
-  u_in_steps : (j : ℕ) → u_on s r.source.pitch r.source.slice_pitch z (r.source.y + row) (x + j) ≡ u + j / 2 * chroma_step s
-  u_in_steps j = u_on_lem s r.source.pitch r.source.slice_pitch z (r.source.y + row) x yuv even (x + j) (j / 2) (half_of_lem j)
+  u_in_steps : (j : ℕ) → u_on s r.source z (r.source.y + row) (x + j) ≡ u + j / 2 * chroma_step s
+  u_in_steps j = u_by_half s r.source z (r.source.y + row) x yuv even starts (x + j) (j / 2) (half_on j)
 
-  v_in_steps : (j : ℕ) → v_on s r.source.pitch r.source.slice_pitch z (r.source.y + row) (x + j) ≡ v + j / 2 * chroma_step s
-  v_in_steps j = v_on_lem s r.source.pitch r.source.slice_pitch z (r.source.y + row) x yuv even (x + j) (j / 2) (half_of_lem j)
+  v_in_steps : (j : ℕ) → v_on s r.source z (r.source.y + row) (x + j) ≡ v + j / 2 * chroma_step s
+  v_in_steps j = v_by_half s r.source z (r.source.y + row) x yuv even starts (x + j) (j / 2) (half_on j)
 
   -- the colour of samples at three places
   abbrev rgb_of_at : (y' u' v' : ℕ) → Rgb
@@ -174,8 +180,8 @@ module _ (numbers : YuvSet) (src : List ℕ) (m s d : ℕ) (r : ConvertRegion) (
       word_texel (lines_of numbers) _ _ _
       ∙ ap (λ p. opaque_of p) (set_lines numbers _ _ _)
       ∙ ap (λ p. opaque_of p) (sym (λ i. rgb_of_at (luma_in_steps j i) (u_in_steps j i) (v_in_steps j i)))
-      ∙ subst (λ k. opaque_of (rgb_of_at (luma_on s r.source.pitch r.source.slice_pitch z (r.source.y + row) k) (u_on s r.source.pitch r.source.slice_pitch z (r.source.y + row) k) (v_on s r.source.pitch r.source.slice_pitch z (r.source.y + row) k)) ≡ texel_at numbers src s r.source.pitch r.source.slice_pitch z (r.source.y + row) (r.source.x + (first + j)))
-      shift (sym (texel_samples numbers src s r.source.pitch r.source.slice_pitch z (r.source.y + row) (r.source.x + (first + j)) yuv fit.places))
+      ∙ subst (λ k. opaque_of (rgb_of_at (luma_on s r.source z (r.source.y + row) k) (u_on s r.source z (r.source.y + row) k) (v_on s r.source z (r.source.y + row) k)) ≡ texel_at numbers src s r.source z (r.source.y + row) (r.source.x + (first + j)))
+      shift (sym (texel_samples numbers src s r.source z (r.source.y + row) (r.source.x + (first + j)) yuv fit.places))
 
   -- the samples of every pair lie within the source
   pub pairs_in : PairsIn (length src) s luma u v pairs
@@ -184,26 +190,37 @@ module _ (numbers : YuvSet) (src : List ℕ) (m s d : ℕ) (r : ConvertRegion) (
       let fit = fits.source (first + (2 * k + 1)) (omega (arith, j, within)) in
       let shift : r.source.x + (first + (2 * k + 1)) ≡ x + (2 * k + 1) = omega arith in
       let half : (2 * k + 1) / 2 ≡ k = omega arith in
-      let i = samples_in numbers src s r.source.pitch r.source.slice_pitch z (r.source.y + row) (r.source.x + (first + (2 * k + 1))) yuv fit.places in
+      let i = samples_in numbers src s r.source z (r.source.y + row) (r.source.x + (first + (2 * k + 1))) yuv fit.places in
       record {
-        lumas = subst (λ p. p < length src) (ap (luma_on s r.source.pitch r.source.slice_pitch z (r.source.y + row)) shift ∙ second_on s r.source.pitch r.source.slice_pitch z (r.source.y + row) x yuv even k) i.luma_in;
-        us = subst (λ p. p < length src) (ap (u_on s r.source.pitch r.source.slice_pitch z (r.source.y + row)) shift ∙ u_in_steps (2 * k + 1) ∙ ap (λ n. u + n * chroma_step s) half) i.u_in;
-        vs = subst (λ p. p < length src) (ap (v_on s r.source.pitch r.source.slice_pitch z (r.source.y + row)) shift ∙ v_in_steps (2 * k + 1) ∙ ap (λ n. v + n * chroma_step s) half) i.v_in;
+        lumas = subst (λ p. p < length src) (ap (luma_on s r.source z (r.source.y + row)) shift ∙ second_on s r.source z (r.source.y + row) x yuv even starts k) i.luma_in;
+        us = subst (λ p. p < length src) (ap (u_on s r.source z (r.source.y + row)) shift ∙ u_in_steps (2 * k + 1) ∙ ap (λ n. u + n * chroma_step s) half) i.u_in;
+        vs = subst (λ p. p < length src) (ap (v_on s r.source z (r.source.y + row)) shift ∙ v_in_steps (2 * k + 1) ∙ ap (λ n. v + n * chroma_step s) half) i.v_in;
       }
+
+  -- where its texels go
+  run_step : (k : ℕ) → to_at d r z row (first + k) ≡ to_at d r z row first + k * bytes_of d
+  unfolding to_at
+  run_step k =
+      let p = r.destination in
+      let here = run_room (length src) m s d r z row first fits (omega (arith, within)) in
+      ap up
+      (ap (place_of p (bytes_of d) z (r.destination.y + row)) (sym (add_assoc r.destination.x first k)) ∙ along p (bytes_of d) z (r.destination.y + row) (r.destination.x + first) k
+      ∙ ap (λ q. q +ℤ pos (k * bytes_of d)) here.place)
+      ∙ up_pos (to_at d r z row first + k * bytes_of d)
 
   -- the run's words, written, are the run
   pub run_pairs : (to : ℕ) (dst out : List ℕ) → to ≡ to_at d r z row first
       → out ≡ iterate (word_written (run_word (lines_of numbers) src s luma u v) d to) (2 * pairs) dst → out ≡ run_written numbers src s d r z row first (2 * pairs) dst
-  unfolding word_written run_written written to_at texel_start
+  unfolding word_written run_written written
   run_pairs to dst out e g =
       g ∙ iterate_same (word_written word d to) (λ k. written numbers src s d r z row (first + k)) (2 * pairs) dst
-      (λ k h m. ap₂ (λ p t. sets m p (encoded_bytes d t)) (ap (λ p. p + k * bytes_of d) e ∙ omega (arith, add-mul (r.destination.x + first) k (bytes_of d), ap (λ n. n * bytes_of d) (add_assoc r.destination.x first k))) (word_of_run k h))
+      (λ k h m. ap₂ (λ p t. sets m p (encoded_bytes d t)) (ap (λ p. p + k * bytes_of d) e ∙ sym (run_step k)) (word_of_run k h))
     where
       word : ℕ → ℕ
       word = run_word (lines_of numbers) src s luma u v
 
   -- the same by the places of the first pair
-  module _ (at : PairPlaces) (there : PairAt at s r.source.pitch r.source.slice_pitch z (r.source.y + row) (r.source.x + first)) where
+  module _ (at : PairPlaces) (there : PairAt at s r.source z (r.source.y + row) (r.source.x + first)) where
     pub run_inside : PlacesIn (length src) at pairs
     run_inside = by_places there (λ f y' u' v'. PairsIn (length src) f y' u' v' pairs) pairs_in
 

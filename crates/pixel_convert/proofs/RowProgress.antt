@@ -13,12 +13,12 @@ use Rattle.regions.specs.declared.reply.ConvertRegion.{ConvertRegion}
 use Rattle.regions.specs.Regions.{written, row_written}
 use Rattle.regions.specs.Rows.{RowFits}
 use Rattle.regions.proofs.Fetch.{any_set}
-use Rattle.regions.specs.RowOffsets.{CarriesOffsetsIn}
+use Rattle.regions.specs.RowOffsets.{CarriesOffsets}
 use Rattle.regions.proofs.RowOffsetsLaws.{read_room, write_room, block_rows, block_texels, block_carried, row_read, row_write, lying_row}
 
 -- REACHED: both offsets are those of column col, and the texels before it are written
 pub record ReachesColumn (src : List ℕ) (s d : ℕ) (r : ConvertRegion) (z row col from to : ℕ) (dst₀ dst : List ℕ) : Type 0 where
-  pub carried : CarriesOffsetsIn s d r z row col from to
+  pub carried : CarriesOffsets s d r z row col from to
   pub written : dst ≡ iterate (written bt601 src s d r z row) col dst₀
 
 -- the part of the block for column col: some words, and no more than texels are left
@@ -35,12 +35,12 @@ module _ (src : List ℕ) {m s d : ℕ} {r : ConvertRegion} {z row : ℕ} (fits 
   whole col from to dst₀ dst h e numbers = h.written ∙ ap (λ n. iterate (written bt601 src s d r z row) n dst₀) e ∙ any_set bt601 numbers src s d r z row dst₀ lane
 
   -- A8R8G8B8 texels lie within the source and are written from there
-  pub lies : (from to : ℕ) → CarriesOffsetsIn s d r z row 0 from to → s ≡ A8R8G8B8 → (from + r.width * 4 ≤ length src) × (to + r.width * bytes_of d ≤ m)
+  pub lies : (from to : ℕ) → CarriesOffsets s d r z row 0 from to → s ≡ A8R8G8B8 → (from + r.width * 4 ≤ length src) × (to + r.width * bytes_of d ≤ m)
   unfolding bytes_of parts_of
   lies from to c e =
       (subst (λ f. from + r.width * bytes_of f ≤ length src) e (row_read bt601 src m s d r z row fits lane from to c), row_write bt601 src m s d r z row fits lane from to c)
 
-  pub rewritten : (from to : ℕ) (dst out : List ℕ) (after : ℕ) → CarriesOffsetsIn s d r z row 0 from to → s ≡ A8R8G8B8 → WordsWritten (word_in src from) d to r.width dst out after
+  pub rewritten : (from to : ℕ) (dst out : List ℕ) (after : ℕ) → CarriesOffsets s d r z row 0 from to → s ≡ A8R8G8B8 → WordsWritten (word_in src from) d to r.width dst out after
       → (numbers : YuvSet) → out ≡ row_written numbers src s d r z row dst
   unfolding row_written
   rewritten from to dst out after c e w numbers = lying_row bt601 src m s d r z row fits lane from to c e dst out after w ∙ any_set bt601 numbers src s d r z row dst lane

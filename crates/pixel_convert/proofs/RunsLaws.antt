@@ -1,10 +1,14 @@
 -- Laws on what specs/Runs defines. Assumes nothing.
-use Rattle.std.specs.Prelude.{◌≡◌, List, ℕ, ◌+◌, ◌*◌, ◌-◌, ◌≤◌}
-use Rattle.std.proofs.Common.{sym, ap, ◌∙◌, zero-add, add-mul, mul-le-mul_right, arith}
+use Rattle.std.specs.Prelude.{◌≡◌, List, ℕ, ◌+◌, ◌*◌, ◌-◌, ◌≤◌, pos, ◌+ℤ◌}
+use Rattle.std.proofs.Common.{sym, ap, ◌∙◌, zero-add, add-zero, add-mul, mul-le-mul_right, arith}
 use Rattle.words.specs.Iterate.{iterate}
 use Rattle.words.proofs.IterateLaws.{iterate_zero, iterate_add, iterate_same, iterate_step}
+use Rattle.words.specs.Integers.{up}
+use Rattle.words.proofs.IntegersLaws.{up_pos}
 use Rattle.formats.specs.Table.{bytes_of}
-use Rattle.places.specs.Places.{texel_start}
+use Rattle.places.specs.Places.{place_of}
+use Rattle.places.specs.Inside.{EndsWithin}
+use Rattle.places.proofs.InsideLaws.{along}
 use Rattle.stretch_rect.specs.declared.sets.YuvSet.{YuvSet}
 use Rattle.regions.specs.declared.reply.ConvertRegion.{ConvertRegion}
 use Rattle.regions.specs.Regions.{to_at, written, row_written}
@@ -36,10 +40,17 @@ runs_row numbers src s d r z row a b c l e =
 
 -- a column of the row, or the one behind its last, starts within the destination
 pub run_room : (n m s d : ℕ) (r : ConvertRegion) (z row first : ℕ) → RowFits n m s d r z row → first ≤ r.width
-    → texel_start r.destination.pitch r.destination.slice_pitch (bytes_of d) z (r.destination.y + row) (r.destination.x + first) ≤ m
-unfolding to_at texel_start
+    → EndsWithin m 0 (place_of r.destination (bytes_of d) z (r.destination.y + row) (r.destination.x + first)) (to_at d r z row first)
+unfolding to_at
 run_room n m s d r z row first fits h =
-    let last = r.width - 1 in
-    let one : (r.destination.x + last + 1) * bytes_of d ≡ (r.destination.x + last) * bytes_of d + 1 * bytes_of d = add-mul (r.destination.x + last) 1 (bytes_of d) in
-    let less : (r.destination.x + first) * bytes_of d ≤ (r.destination.x + last + 1) * bytes_of d = mul-le-mul_right (bytes_of d) (omega (arith, h, fits.rows.0)) in
-    omega (arith, fits.destination last (omega (arith, fits.rows.0)), one, less)
+    let p = r.destination in
+    let b = bytes_of d in
+    let zero = fits.destination 0 fits.rows.0 in
+    let last = fits.destination (r.width - 1) (omega (arith, fits.rows.0)) in
+    let o = up (place_of p b z (r.destination.y + row) (r.destination.x + 0)) in
+    let at : (k : ℕ) → place_of p b z (r.destination.y + row) (r.destination.x + k) ≡ pos (o + k * b) = λ k.
+    ap (place_of p b z (r.destination.y + row)) (ap (λ n. n + k) (sym (add-zero r.destination.x))) ∙ along p b z (r.destination.y + row) (r.destination.x + 0) k ∙ ap (λ q. q +ℤ pos (k * b)) zero.place in
+    let one : first * b ≤ (r.width - 1 + 1) * b = mul-le-mul_right b (omega (arith, h, fits.rows.0)) in
+    let more : (r.width - 1 + 1) * b ≡ (r.width - 1) * b + 1 * b = add-mul (r.width - 1) 1 b in
+    let up_at : (k : ℕ) → up (place_of p b z (r.destination.y + row) (r.destination.x + k)) ≡ o + k * b = λ k. ap up (at k) ∙ up_pos (o + k * b) in
+    record { place = at first ∙ ap pos (sym (up_at first)); end = omega (arith, up_at first, up_at (r.width - 1), one, more, last.end) }

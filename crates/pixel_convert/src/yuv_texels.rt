@@ -3,10 +3,12 @@
 //! Ported from pixel_convert.rs of athei/mtld3d (an altered version, see NOTICE).
 #![tactic(auto)]
 
-ghost use Rattle.std.specs.Prelude.{◌≡◌, true, ◌+◌, ◌≤◌, ◌<◌, ◌%◌, ◌^◌, eqb, length, take};
+ghost use Rattle.std.specs.Prelude.{◌≡◌, true, ◌+◌, ◌*◌, ◌≤◌, ◌<◌, ◌%◌, ◌^◌, ◌==◌, length, take};
+ghost use Rattle.std.specs.Int.{w64, FitsUnsigned};
+ghost use Rattle.formats.specs.Table.{bytes_of};
 ghost use Rattle.formats.specs.Formats.{rgb_code, packed_yuv_code, planar_yuv_code, yuv_code};
 ghost use Rattle.planar_yuv.specs.Answers.{Legal};
-ghost use Rattle.places.specs.Places.{layout_places, places_at, places_in, bytes_at};
+ghost use Rattle.places.specs.Places.{place_of, layout_places, places_at, places_in, bytes_at};
 ghost use Rattle.regions.specs.Regions.{to_at, texel_of, texel_at, written};
 ghost use Rattle.regions.specs.Rows.{RowFits};
 
@@ -30,7 +32,7 @@ fn fetch_planar(
         × (places_in (length src.now) (layout_places (planar_yuv_code format) layout.pitch
         layout.luma_rows at.y at.x) ≡ true) }
     ensures { result
-        ≡ texel_of set.numbers (planar_yuv_code format) (eqb (at.x % 2) 1)
+        ≡ texel_of set.numbers (planar_yuv_code format) (at.x % 2 == 1)
         (bytes_at src.now (layout_places (planar_yuv_code format) layout.pitch layout.luma_rows
         at.y at.x)) }
 {
@@ -48,41 +50,51 @@ fn fetch_planar(
 fn fetch_packed(set: LegalSet, macropixel: &[u8], format: PackedYuv, x: usize) -> Texel
     requires { 4 ≤ length macropixel.now }
     ensures { result
-        ≡ texel_of set.numbers (packed_yuv_code format) (eqb (x % 2) 1) (take 4 macropixel.now) }
+        ≡ texel_of set.numbers (packed_yuv_code format) (x % 2 == 1) (take 4 macropixel.now) }
 {
     regions::opaque(stretch_rect::decode_packed_yuv(set, format, macropixel, x % 2 == 1))
 }
 
 /// The byte of the destination at which column `first` of a row starts.
-#[tactic(auto, unfolding(regions::specs::Regions::to_at))]
+#[tactic(auto, using(regions::proofs::RowOffsetsLaws::offset_is), unfolding(regions::specs::Regions::to_at))]
 pub fn run_start(dst_format: RgbFormat, at: RegionRow, first: usize) -> usize
-    requires { (at.region.destination.y + at.row < 2 ^ 64)
-        × (at.region.destination.x + first < 2 ^ 64)
-        × (to_at (rgb_code dst_format) at.region at.z at.row first < 2 ^ 64) }
+    requires { (at.z * at.region.destination.slice_pitch < 2 ^ 64)
+        × (at.region.destination.y + at.row ≤ 4294967295)
+        × (at.region.destination.x + first ≤ 4294967295)
+        × FitsUnsigned w64 (place_of at.region.destination (bytes_of (rgb_code dst_format)) at.z
+        (at.region.destination.y + at.row) (at.region.destination.x + first)) }
     ensures { result ≡ to_at (rgb_code dst_format) at.region at.z at.row first }
 {
     let side = &at.region.destination;
     side.start_of(dst_format.bytes_per_texel(), side.spot(at.z, at.row, first))
 }
 
-// A texel that lies in its source. A planar source has a layout then.
-#[tactic(auto, using(crate::proofs::Fetched::packed_in, places::proofs::ByKind::texel_laid))]
+// A texel that lies in its source. A planar source has a layout then, which starts at the side's
+// start.
+#[tactic(auto, using(crate::proofs::Fetched::packed_fits, places::proofs::ByKind::texel_laid, crate::proofs::Fetched::frame_in))]
 fn fetch(source: YuvSource, src: &[u8], side: &Side, at: Spot) -> Texel
-    requires { places_in (length src.now) (places_at (yuv_code source.format) side.now.pitch
-        side.now.slice_pitch at.z at.y at.x)
-        ≡ true }
+    requires { (places_in (length src.now) (places_at (yuv_code source.format) side.now at.z at.y
+        at.x) ≡ true)
+        × (at.z * side.now.slice_pitch < 2 ^ 64) }
     ensures { result
-        ≡ texel_at source.set.numbers src.now (yuv_code source.format) side.now.pitch
-        side.now.slice_pitch at.z at.y at.x }
+        ≡ texel_at source.set.numbers src.now (yuv_code source.format) side.now at.z at.y at.x }
 {
     match source.format {
         YuvFormat::Packed(packed) => {
-            let macropixel = side.start_of(4, Spot { x: at.x / 2, ..at });
+            let macropixel = side.start_of(
+                4,
+                Spot {
+                    z: at.z,
+                    y: at.y,
+                    x: at.x / 2,
+                },
+            );
             fetch_packed(source.set, &src[macropixel..], packed, at.x)
         }
         YuvFormat::Planar(planar) => {
             let layout = places::layout_in_slice(planar, side).unwrap();
-            fetch_planar(source.set, src, planar, layout, at)
+            let frame = &src[side.start as usize..];
+            fetch_planar(source.set, frame, planar, layout, at)
         }
     }
 }

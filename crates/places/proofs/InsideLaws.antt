@@ -1,19 +1,20 @@
--- A region lies inside where its last texel does. Assumes nothing.
-use Rattle.std.specs.Prelude.{◌≡◌, Bool, ◌&&◌, leb, ltb, eqb, length, get_or, take, drop, refl, true, false, List, [], ◌∷◌, ℕ, zero, suc, ◌+◌, ◌/◌, ◌≤◌, ◌<◌}
-use Rattle.std.proofs.Common.{sym, ap, ◌∙◌, not-suc-le-zero, drop-cons, arith, mul-le-mul_right, leb-true, le-leb, ltb-true, ltb-false, lt-ltb, ◌-◌}
-use Rattle.std.proofs.lemmas.Bool.{false≢true, and_parts, and_right}
-use borrow.Author.Tests.{lt-leb}
-use Rattle.words.specs.Tests.{pick}
-use Rattle.words.specs.Iterate.{all}
-use Rattle.words.proofs.IterateLaws.{all_true, all_at, all_false}
-use Rattle.formats.specs.Codes.{YV12}
+-- Where a texel's bytes lie, by the kind of its picture, and which of them lie within a length. Assumes nothing.
+use Rattle.std.specs.Prelude.{◌≡◌, Bool, ◌&&◌, ◌||◌, leb, ltb, length, get_or, take, drop, refl, true, false, List, ◌∷◌, ℕ, zero, suc, ◌+◌, ◌-◌, ◌*◌, ◌/◌, ◌^◌, ◌≤◌, ◌<◌, ℤ, pos, negsuc, ◌+ℤ◌}
+use Rattle.std.specs.Int.{w64, FitsUnsigned}
+use Rattle.std.specs.List.{Contains}
+use Rattle.std.proofs.Common.{rules, sym, ap, subst, ◌∙◌, not-suc-le-zero, drop-cons, arith, add-mul, leb-true, le-leb, ltb-true, ltb-false}
+use Rattle.std.proofs.lemmas.Bool.{false≢true, and_parts, and_right, lt-leb}
+use Rattle.std.proofs.lemmas.Int.{ints}
+use Rattle.std.proofs.lemmas.List.Elements.{Contains-get_or}
+use Rattle.words.specs.Integers.{up}
+use Rattle.words.proofs.IterateLaws.{all_at, all_false}
 use Rattle.formats.specs.Table.{bytes_of}
-use Rattle.formats.specs.Classes.{is_packed_yuv, is_planar_yuv}
-use Rattle.planar_yuv.specs.Rules.{allowed}
-use Rattle.planar_yuv.specs.Offsets.{contains, luma_offset_at, nv12_u, nv12_v, yv12_u, yv12_v, u_offset_at, v_offset_at}
-use Rattle.planar_yuv.proofs.OffsetsLaws.{contains_is, contains_yes}
-use Rattle.places.specs.Places.{absent, offsets, run, texel_start, planar_places, places_at, all_below, places_in, bytes_from, texel_in, inside_all}
-use Rattle.places.specs.Inside.{TexelFits}
+use Rattle.formats.specs.Classes.{is_packed_yuv, is_planar_yuv, is_lane_source}
+use Rattle.formats.specs.Formats.{is_source}
+use Rattle.formats.proofs.Listed.{lane_some, lane_only}
+use Rattle.places.specs.declared.Side.{Side}
+use Rattle.places.specs.Places.{run, place_of, Upright, from_place, started, planar_places, places_at, all_below, places_in, HasByte, bytes_from, texel_in, inside_all}
+use Rattle.places.specs.Inside.{TexelFits, EndsWithin, bytes_in}
 
 -- ---- offsets in a row
 pub run_in : (len start n : ℕ) → 0 < n → all_below len (run start n) ≡ leb (start + n) len
@@ -39,201 +40,152 @@ bytes_run (suc n) start l h =
     ap (λ bs. get_or l start 0 ∷ bs) (bytes_run n (suc start) l (omega arith))
     ∙ sym (ap (take (suc n)) (drop-cons l start 0 (omega arith)))
 
--- ---- offsets of a texel further on are no lower
-abbrev NoLower : List ℕ → List ℕ → Type 0
-NoLower [] [] = Unit {0}
-NoLower [] (b ∷ bs) = ⊥
-NoLower (a ∷ as') [] = ⊥
-NoLower (a ∷ as') (b ∷ bs) = (a ≤ b) × NoLower as' bs
+-- they are all there
+pub length_run : (n start : ℕ) → length (run start n) ≡ n
+length_run zero start = refl
+length_run (suc n) start = ap suc (length_run n (suc start))
 
-below_lower : (len : ℕ) (as' bs : List ℕ) → NoLower as' bs → all_below len bs ≡ true → all_below len as' ≡ true
-below_lower len [] [] h t = refl
-below_lower len [] (b ∷ bs) h t = absurd h
-below_lower len (a ∷ as') [] h t = absurd h
-below_lower len (a ∷ as') (b ∷ bs) h t =
-    let l = ltb-true b len (and_parts (ltb b len) (all_below len bs) t).0 in
-    rw (lt-ltb a len (omega (arith, h.0)), below_lower len as' bs h.1 (and_parts (ltb b len) (all_below len bs) t).1) refl
+pub run_at : (n start i d : ℕ) → i < n → get_or (run start n) i d ≡ start + i
+run_at zero start i d h = absurd (not-suc-le-zero h)
+run_at (suc n) start zero d h = omega arith
+run_at (suc n) start (suc i) d h = run_at n (suc start) i d (omega (arith, h)) ∙ omega arith
 
-run_lower : (n a b : ℕ) → a ≤ b → NoLower (run a n) (run b n)
-run_lower zero a b h = tt
-run_lower (suc n) a b h = (h, run_lower n (suc a) (suc b) (omega arith))
+pub run_contains : (start n k : ℕ) → start ≤ k → k < start + n → Contains (run start n) k
+run_contains start n k low high =
+    subst (Contains (run start n)) (run_at n start (k - start) k (omega (arith, low, high)) ∙ omega (arith, low))
+    (Contains-get_or (run start n) (k - start) k (omega (arith, low, high, length_run n start)))
 
-start_lower : (pitch slice_pitch size z y x z' y' x' : ℕ) → z ≤ z' → y ≤ y' → x ≤ x' → texel_start pitch slice_pitch size z y x ≤ texel_start pitch slice_pitch size z' y' x'
-unfolding texel_start
-start_lower pitch slice_pitch size z y x z' y' x' hz hy hx =
-    omega (arith, mul-le-mul_right slice_pitch hz, mul-le-mul_right pitch hy, mul-le-mul_right size hx)
+-- ---- a place and the bytes behind it
+pub from_place_in : (len n : ℕ) (z : ℤ) → 0 < n → places_in len (from_place z n) ≡ bytes_in len n z
+unfolding places_in
+from_place_in len n (pos a) h = run_in len a n h
+from_place_in len n (negsuc a) h = refl
 
-module _ (z y x z' y' x' : ℕ) (hz : z ≤ z') (hy : y ≤ y') (hx : x ≤ x') where
-  half_y : y / 2 ≤ y' / 2
-  half_y = omega arith
+pub ends_within : (len n : ℕ) (z : ℤ) → bytes_in len n z ≡ true → EndsWithin len n z (up z)
+unfolding up
+ends_within len n (pos a) h = record { place = refl; end = leb-true (a + n) len h }
+ends_within len n (negsuc a) h = absurd (false≢true h)
 
-  module _ (pitch rows : ℕ) where
-    luma_lower : luma_offset_at pitch x y ≤ luma_offset_at pitch x' y'
-    unfolding luma_offset_at
-    luma_lower = omega (arith, mul-le-mul_right pitch hy)
+-- which is a number of 64 bits, as the length is
+number_fits : (n : ℕ) → n < 2 ^ 64 → FitsUnsigned w64 (pos n)
+number_fits n h = search rules
 
-    nv12_lower : nv12_u pitch rows x y ≤ nv12_u pitch rows x' y'
-    unfolding nv12_u
-    nv12_lower = omega (arith, mul-le-mul_right pitch half_y)
+pub ends_fit : (len n : ℕ) (z : ℤ) (at : ℕ) → len < 2 ^ 64 → EndsWithin len n z at → FitsUnsigned w64 z
+ends_fit len n z at l h = rw h.place (number_fits at (omega (arith, l, h.end)))
 
-    yv12_lower : yv12_v pitch rows x y ≤ yv12_v pitch rows x' y'
-    unfolding yv12_v
-    yv12_lower = omega (arith, mul-le-mul_right (pitch / 2) half_y)
+-- its bytes are those from there on
+pub from_place_has : (z : ℤ) (at n k : ℕ) → z ≡ pos at → at ≤ k → k < at + n → HasByte (from_place z n) k
+from_place_has z at n k e low high = rw e (run_contains at n k low high)
 
-    u_by : (t : Bool) → pick t yv12_u nv12_u pitch rows x y ≤ pick t yv12_u nv12_u pitch rows x' y'
-    unfolding yv12_u
-    u_by true = omega (arith, yv12_lower)
-    u_by false = nv12_lower
+-- a slice further on
+pub slices_on : (side : Side) (size z y x : ℕ) → place_of side size z y x ≡ place_of side size 0 y x +ℤ pos (z * side.slice_pitch)
+unfolding place_of
+slices_on side size z y x = omega (arith, ints)
 
-    v_by : (t : Bool) → pick t yv12_v nv12_v pitch rows x y ≤ pick t yv12_v nv12_v pitch rows x' y'
-    unfolding nv12_v
-    v_by true = yv12_lower
-    v_by false = omega (arith, nv12_lower)
+-- units further along a row
+pub along : (side : Side) (size z y x k : ℕ) → place_of side size z y (x + k) ≡ place_of side size z y x +ℤ pos (k * size)
+unfolding place_of
+along side size z y x k = omega (arith, ints, add-mul x k size)
 
-    u_lower : (f : ℕ) → u_offset_at f pitch rows x y ≤ u_offset_at f pitch rows x' y'
-    unfolding u_offset_at
-    u_lower f = u_by (eqb f YV12)
+pub upright : (side : Side) (pitch : ℕ) → Upright side pitch
+unfolding place_of
+upright side pitch s p size z y x = rw (s, p) (omega (arith, ints))
 
-    v_lower : (f : ℕ) → v_offset_at f pitch rows x y ≤ v_offset_at f pitch rows x' y'
-    unfolding v_offset_at
-    v_lower f = v_by (eqb f YV12)
+module _ (len f : ℕ) (side : Side) (z y x : ℕ) where
+  -- ---- columns and rows
+  pub texel_fits : texel_in len f side z y x ≡ true → TexelFits len f side z y x
+  unfolding texel_in
+  texel_fits h =
+      let xs = leb x 4294967295 in
+      let ys = leb y 4294967295 in
+      let ps = places_in len (places_at f side z y x) in
+      let small = (and_parts (xs && ys) ps h).0 in
+      record {
+        column = leb-true x 4294967295 (and_parts xs ys small).0;
+        row = leb-true y 4294967295 (and_parts xs ys small).1;
+        places = (and_parts (xs && ys) ps h).1;
+      }
 
-    planar_lower : (len f : ℕ) → places_in len (planar_places f pitch rows y' x') ≡ true → places_in len (planar_places f pitch rows y x) ≡ true
-    unfolding places_in
-    planar_lower len f h = go (allowed f pitch rows) (contains pitch rows x' y') refl refl h
-      where
-        os : List ℕ
-        os = luma_offset_at pitch x y ∷ u_offset_at f pitch rows x y ∷ v_offset_at f pitch rows x y ∷ []
+  -- a column or a row beyond 32 bits
+  pub texel_out_x : 4294967295 < x → texel_in len f side z y x ≡ false
+  unfolding texel_in
+  texel_out_x h = rw (lt-leb x 4294967295 h) refl
 
-        os' : List ℕ
-        os' = luma_offset_at pitch x' y' ∷ u_offset_at f pitch rows x' y' ∷ v_offset_at f pitch rows x' y' ∷ []
+  pub texel_out_y : 4294967295 < y → texel_in len f side z y x ≡ false
+  unfolding texel_in
+  texel_out_y h = rw (and_right (leb x 4294967295) (leb y 4294967295) (lt-leb y 4294967295 h)) refl
 
-        go : (a c : Bool) → allowed f pitch rows ≡ a → contains pitch rows x' y' ≡ c → places_in len (pick a (pick c (offsets os') absent) absent) ≡ true → places_in len (planar_places f pitch rows y x) ≡ true
-        go true true e e' k =
-            let i = contains_is pitch rows x' y' e' in
-            rw (e, contains_yes pitch rows x y (omega (arith, i.0), omega (arith, i.1)))
-            (below_lower len os os' (luma_lower, (u_lower f, (v_lower f, tt))) k)
-        go true false e e' k = absurd (false≢true k)
-        go false c e e' k = absurd (false≢true k)
+  pub texel_in_places : x ≤ 4294967295 → y ≤ 4294967295 → texel_in len f side z y x ≡ places_in len (places_at f side z y x)
+  unfolding texel_in
+  texel_in_places hx hy = rw (le-leb x 4294967295 hx, le-leb y 4294967295 hy) refl
 
-  pub places_lower : (len f pitch slice_pitch : ℕ) → places_in len (places_at f pitch slice_pitch z' y' x') ≡ true → places_in len (places_at f pitch slice_pitch z y x) ≡ true
-  unfolding places_at places_in
-  places_lower len f pitch slice_pitch h = go (is_planar_yuv f) (is_packed_yuv f) h
-    where
-      half_x : x / 2 ≤ x' / 2
-      half_x = omega arith
+module _ (f : ℕ) (side : Side) (z y x : ℕ) where
+  -- ---- the places of each kind of picture
+  pub places_at_lanes : is_planar_yuv f ≡ false → is_packed_yuv f ≡ false → places_at f side z y x ≡ from_place (place_of side (bytes_of f) z y x) (bytes_of f)
+  unfolding places_at
+  places_at_lanes p q = rw (p, q) refl
 
-      go : (p q : Bool)
-          → places_in len (pick p (planar_places f pitch (slice_pitch / pitch) y' x') (pick q (offsets (run (texel_start pitch slice_pitch 4 z' y' (x' / 2)) 4)) (offsets (run (texel_start pitch slice_pitch (bytes_of f) z' y' x') (bytes_of f))))) ≡ true
-          → places_in len (pick p (planar_places f pitch (slice_pitch / pitch) y x) (pick q (offsets (run (texel_start pitch slice_pitch 4 z y (x / 2)) 4)) (offsets (run (texel_start pitch slice_pitch (bytes_of f) z y x) (bytes_of f))))) ≡ true
-      go true q k = planar_lower pitch (slice_pitch / pitch) len f k
-      go false true k =
-          below_lower len (run (texel_start pitch slice_pitch 4 z y (x / 2)) 4) (run (texel_start pitch slice_pitch 4 z' y' (x' / 2)) 4)
-          (run_lower 4 _ _ (start_lower pitch slice_pitch 4 z y (x / 2) z' y' (x' / 2) hz hy half_x)) k
-      go false false k =
-          below_lower len (run (texel_start pitch slice_pitch (bytes_of f) z y x) (bytes_of f)) (run (texel_start pitch slice_pitch (bytes_of f) z' y' x') (bytes_of f))
-          (run_lower (bytes_of f) _ _ (start_lower pitch slice_pitch (bytes_of f) z y x z' y' x' hz hy hx)) k
+  pub places_at_packed : is_planar_yuv f ≡ false → is_packed_yuv f ≡ true → places_at f side z y x ≡ from_place (place_of side 4 z y (x / 2)) 4
+  unfolding places_at
+  places_at_packed p q = rw (p, q) refl
 
--- ---- the whole region
-pub texel_lower : (len f pitch slice_pitch z y x z' y' x' : ℕ) → z ≤ z' → y ≤ y' → x ≤ x' → texel_in len f pitch slice_pitch z' y' x' ≡ true → texel_in len f pitch slice_pitch z y x ≡ true
-unfolding texel_in
-texel_lower len f pitch slice_pitch z y x z' y' x' hz hy hx h =
-    let xs = leb x' 4294967295 in
-    let ys = leb y' 4294967295 in
-    let ps = places_in len (places_at f pitch slice_pitch z' y' x') in
-    let small = (and_parts (xs && ys) ps h).0 in
-    let lx = leb-true x' 4294967295 (and_parts xs ys small).0 in
-    let ly = leb-true y' 4294967295 (and_parts xs ys small).1 in
-    rw (
-      le-leb x 4294967295 (omega arith),
-      le-leb y 4294967295 (omega arith),
-      places_lower z y x z' y' x' hz hy hx len f pitch slice_pitch (and_parts (xs && ys) ps h).1,
-    ) refl
+  pub places_at_planar : is_planar_yuv f ≡ true → places_at f side z y x ≡ started side.start (planar_places f (up side.pitch) (side.slice_pitch / up side.pitch) y x)
+  unfolding places_at
+  places_at_planar p = rw p refl
 
-pub texel_fits : (len f pitch slice_pitch z y x : ℕ) → texel_in len f pitch slice_pitch z y x ≡ true → TexelFits len f pitch slice_pitch z y x
-unfolding texel_in
-texel_fits len f pitch slice_pitch z y x h =
-    let xs = leb x 4294967295 in
-    let ys = leb y 4294967295 in
-    let ps = places_in len (places_at f pitch slice_pitch z y x) in
-    let small = (and_parts (xs && ys) ps h).0 in
-    record {
-      column = leb-true x 4294967295 (and_parts xs ys small).0;
-      row = leb-true y 4294967295 (and_parts xs ys small).1;
-      places = (and_parts (xs && ys) ps h).1;
-    }
+module _ (len f : ℕ) (side : Side) (z y x : ℕ) where
+  -- ---- which lie within a length
+  pub lanes_in : is_planar_yuv f ≡ false → is_packed_yuv f ≡ false → 0 < bytes_of f → places_in len (places_at f side z y x) ≡ bytes_in len (bytes_of f) (place_of side (bytes_of f) z y x)
+  lanes_in p q s = ap (places_in len) (places_at_lanes f side z y x p q) ∙ from_place_in len (bytes_of f) (place_of side (bytes_of f) z y x) s
 
--- a column or a row beyond 32 bits
-pub texel_out_x : (len f pitch slice_pitch z y x : ℕ) → 4294967295 < x → texel_in len f pitch slice_pitch z y x ≡ false
-unfolding texel_in
-texel_out_x len f pitch slice_pitch z y x h = rw (lt-leb x 4294967295 h) refl
+  pub packed_in : is_planar_yuv f ≡ false → is_packed_yuv f ≡ true → places_in len (places_at f side z y x) ≡ bytes_in len 4 (place_of side 4 z y (x / 2))
+  packed_in p q = ap (places_in len) (places_at_packed f side z y x p q) ∙ from_place_in len 4 (place_of side 4 z y (x / 2)) (omega arith)
 
-pub texel_out_y : (len f pitch slice_pitch z y x : ℕ) → 4294967295 < y → texel_in len f pitch slice_pitch z y x ≡ false
-unfolding texel_in
-texel_out_y len f pitch slice_pitch z y x h = rw (and_right (leb x 4294967295) (leb y 4294967295) (lt-leb y 4294967295 h)) refl
+  -- and where these end
+  pub lane_ends : places_in len (places_at f side z y x) ≡ true → is_planar_yuv f ≡ false → is_packed_yuv f ≡ false → 0 < bytes_of f
+      → EndsWithin len (bytes_of f) (place_of side (bytes_of f) z y x) (up (place_of side (bytes_of f) z y x))
+  lane_ends h p q s = ends_within len (bytes_of f) _ (sym (lanes_in p q s) ∙ h)
 
-pub texel_in_lem : (len f pitch slice_pitch z y x : ℕ) → x ≤ 4294967295 → y ≤ 4294967295 → places_in len (places_at f pitch slice_pitch z y x) ≡ texel_in len f pitch slice_pitch z y x
-unfolding texel_in
-texel_in_lem len f pitch slice_pitch z y x hx hy = rw (le-leb x 4294967295 hx, le-leb y 4294967295 hy) refl
+  pub packed_ends : places_in len (places_at f side z y x) ≡ true → is_planar_yuv f ≡ false → is_packed_yuv f ≡ true
+      → EndsWithin len 4 (place_of side 4 z y (x / 2)) (up (place_of side 4 z y (x / 2)))
+  packed_ends h p q = ends_within len 4 _ (sym (packed_in p q) ∙ h)
 
--- ---- the places of each kind of picture
-pub lane_places : (f pitch slice_pitch z y x : ℕ) → is_planar_yuv f ≡ false → is_packed_yuv f ≡ false
-    → places_at f pitch slice_pitch z y x ≡ offsets (run (texel_start pitch slice_pitch (bytes_of f) z y x) (bytes_of f))
-unfolding places_at
-lane_places f pitch slice_pitch z y x p q = rw (p, q) refl
+-- a slice whose texel lies within a length, as does that of the first slice, lies no further than that from it
+ends_apart : (len n : ℕ) (a b : ℤ) (k : ℕ) → a ≡ b +ℤ pos k → bytes_in len n b ≡ true → bytes_in len n a ≡ true → k ≤ len
+ends_apart len n a (pos b) k e h i =
+    let l : b + k + n ≤ len = leb-true (b + k + n) len (sym (ap (bytes_in len n) e) ∙ i) in
+    omega (arith, l)
+ends_apart len n a (negsuc b) k e h i = absurd (false≢true h)
 
-pub packed_places_lem : (f pitch slice_pitch z y x : ℕ) → is_planar_yuv f ≡ false → is_packed_yuv f ≡ true
-    → places_at f pitch slice_pitch z y x ≡ offsets (run (texel_start pitch slice_pitch 4 z y (x / 2)) 4)
-unfolding places_at
-packed_places_lem f pitch slice_pitch z y x p q = rw (p, q) refl
+pub slice_within : (len f : ℕ) (side : Side) (z y x : ℕ) → is_source f ≡ true → (is_planar_yuv f ≡ true → z ≡ 0)
+    → places_in len (places_at f side 0 y x) ≡ true → places_in len (places_at f side z y x) ≡ true → z * side.slice_pitch ≤ len
+slice_within len f side z y x source one h i = go (is_lane_source f) (is_packed_yuv f) (is_planar_yuv f) refl refl refl source
+  where
+    go : (l q p : Bool) → is_lane_source f ≡ l → is_packed_yuv f ≡ q → is_planar_yuv f ≡ p → (l || (q || p)) ≡ true → z * side.slice_pitch ≤ len
+    go true q p e g k o =
+        let kind = lane_only f e in
+        let place = place_of side (bytes_of f) in
+        ends_apart len (bytes_of f) (place z y x) (place 0 y x) _ (slices_on side (bytes_of f) z y x)
+        (sym (lanes_in len f side 0 y x kind.0 kind.1 (lane_some f e)) ∙ h) (sym (lanes_in len f side z y x kind.0 kind.1 (lane_some f e)) ∙ i)
+    go false q true e g k o = rw (one k) (omega arith)
+    go false true false e g k o =
+        ends_apart len 4 (place_of side 4 z y (x / 2)) (place_of side 4 0 y (x / 2)) _ (slices_on side 4 z y (x / 2))
+        (sym (packed_in len f side 0 y x k g) ∙ h) (sym (packed_in len f side z y x k g) ∙ i)
+    go false false false e g k o = absurd (false≢true o)
 
-pub planar_places_lem : (f pitch slice_pitch z y x : ℕ) → is_planar_yuv f ≡ true
-    → places_at f pitch slice_pitch z y x ≡ planar_places f pitch (slice_pitch / pitch) y x
-unfolding places_at
-planar_places_lem f pitch slice_pitch z y x p = rw p refl
-
-module _ (len f pitch slice_pitch z y x : ℕ) (h : places_in len (places_at f pitch slice_pitch z y x) ≡ true) where
-  -- ---- where a texel ends
-  pub lane_ends : is_planar_yuv f ≡ false → is_packed_yuv f ≡ false → 0 < bytes_of f → texel_start pitch slice_pitch (bytes_of f) z y x + bytes_of f ≤ len
-  unfolding places_in
-  lane_ends p q s =
-      leb-true _ len
-      (sym (run_in len (texel_start pitch slice_pitch (bytes_of f) z y x) (bytes_of f) s) ∙ sym (ap (places_in len) (lane_places f pitch slice_pitch z y x p q)) ∙ h)
-
-  pub packed_ends : is_planar_yuv f ≡ false → is_packed_yuv f ≡ true → texel_start pitch slice_pitch 4 z y (x / 2) + 4 ≤ len
-  unfolding places_in
-  packed_ends p q =
-      leb-true _ len
-      (sym (run_in len (texel_start pitch slice_pitch 4 z y (x / 2)) 4 (omega arith)) ∙ sym (ap (places_in len) (packed_places_lem f pitch slice_pitch z y x p q)) ∙ h)
-
-module _ (len f pitch slice_pitch x0 y0 width height depth : ℕ) where
-  abbrev last : Bool
-  last = texel_in len f pitch slice_pitch (depth - 1) (y0 + (height - 1)) (x0 + (width - 1))
-
-  -- it is inside just where its last texel is
-  pub inside_last : 0 < width → 0 < height → 0 < depth → last ≡ inside_all len f pitch slice_pitch x0 y0 width height depth
+module _ (len f : ℕ) (side : Side) (width height depth : ℕ) where
+  -- ---- a region
+  pub outside_x : 0 < width → 0 < height → 0 < depth → 4294967295 < side.x + (width - 1) → false ≡ inside_all len f side width height depth
   unfolding inside_all
-  inside_last pw ph pd = go last refl
-    where
-      go : (t : Bool) → last ≡ t → t ≡ all (λ z. all (λ row. all (λ col. texel_in len f pitch slice_pitch z (y0 + row) (x0 + col)) width) height) depth
-      go true e =
-          sym (all_true _ depth λ z zl. all_true _ height λ row rl. all_true _ width λ col cl.
-          texel_lower len f pitch slice_pitch z (y0 + row) (x0 + col) (depth - 1) (y0 + (height - 1)) (x0 + (width - 1)) (omega arith) (omega arith) (omega arith) e)
-      go false e =
-          sym (all_false _ depth (depth - 1) (omega arith) (all_false _ height (height - 1) (omega arith) (all_false _ width (width - 1) (omega arith) e)))
+  outside_x pw ph pd h =
+      sym (all_false _ depth 0 pd (all_false _ height 0 ph (all_false _ width (width - 1) (omega (arith, pw)) (texel_out_x len f side 0 (side.y + 0) (side.x + (width - 1)) h))))
 
-  -- the three answers by the last texel's column, row and bytes
-  pub outside_x : 0 < width → 0 < height → 0 < depth → 4294967295 < x0 + (width - 1) → false ≡ inside_all len f pitch slice_pitch x0 y0 width height depth
-  outside_x pw ph pd h = sym (texel_out_x len f pitch slice_pitch (depth - 1) (y0 + (height - 1)) (x0 + (width - 1)) h) ∙ inside_last pw ph pd
+  pub outside_y : 0 < width → 0 < height → 0 < depth → 4294967295 < side.y + (height - 1) → false ≡ inside_all len f side width height depth
+  unfolding inside_all
+  outside_y pw ph pd h =
+      sym (all_false _ depth 0 pd (all_false _ height (height - 1) (omega (arith, ph)) (all_false _ width 0 pw (texel_out_y len f side 0 (side.y + (height - 1)) (side.x + 0) h))))
 
-  pub outside_y : 0 < width → 0 < height → 0 < depth → 4294967295 < y0 + (height - 1) → false ≡ inside_all len f pitch slice_pitch x0 y0 width height depth
-  outside_y pw ph pd h = sym (texel_out_y len f pitch slice_pitch (depth - 1) (y0 + (height - 1)) (x0 + (width - 1)) h) ∙ inside_last pw ph pd
-
-  pub inside_by : 0 < width → 0 < height → 0 < depth → x0 + (width - 1) ≤ 4294967295 → y0 + (height - 1) ≤ 4294967295
-      → places_in len (places_at f pitch slice_pitch (depth - 1) (y0 + (height - 1)) (x0 + (width - 1))) ≡ inside_all len f pitch slice_pitch x0 y0 width height depth
-  inside_by pw ph pd hx hy = texel_in_lem len f pitch slice_pitch (depth - 1) (y0 + (height - 1)) (x0 + (width - 1)) hx hy ∙ inside_last pw ph pd
-
-  pub inside_at : inside_all len f pitch slice_pitch x0 y0 width height depth ≡ true
-      → (z row col : ℕ) → z < depth → row < height → col < width → texel_in len f pitch slice_pitch z (y0 + row) (x0 + col) ≡ true
+  pub inside_at : inside_all len f side width height depth ≡ true
+      → (z row col : ℕ) → z < depth → row < height → col < width → texel_in len f side z (side.y + row) (side.x + col) ≡ true
   unfolding inside_all
   inside_at h z row col zl rl cl = all_at _ width (all_at _ height (all_at _ depth h z zl) row rl) col cl

@@ -1,5 +1,7 @@
 -- Laws: what the proofs of several functions and of other crates cite.
 pub mod InsideLaws
+pub mod Rows
+pub mod PlanarRegions
 pub mod Texel
 pub mod Laid
 pub mod ByKind

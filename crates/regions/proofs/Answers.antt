@@ -1,17 +1,17 @@
 -- A conversion by its reply: refused, empty or accepted, and all that the contract says of each. Assumes nothing.
-use Rattle.std.proofs.Common.{◌≡◌, refl, Bool, true, false, ◌||◌, List, ℕ, ◌+◌, ◌<◌, eqb, length, get_or, Result, Ok, Err, ap, ◌∙◌, subst, arith, eqb-true}
+use Rattle.std.proofs.Common.{◌≡◌, Bool, true, false, List, ℕ, ◌+◌, ◌<◌, length, get_or, Result, Ok, Err, ap, ◌∙◌, subst}
 use Rattle.std.proofs.Math.Path.{sym}
 use Rattle.std.proofs.lemmas.Bool.{false≢true}
 use Rattle.std.proofs.lemmas.List.Edits.{sets}
 use Rattle.words.specs.Iterate.{iterate}
-use Rattle.words.proofs.IterateLaws.{iterate_keeps}
 use Rattle.formats.specs.Classes.{is_yuv}
 use Rattle.formats.specs.Formats.{lane_source_code, yuv_code}
 use Rattle.formats.proofs.Classified.{lanes_no_yuv}
+use Rattle.formats.proofs.Listed.{rgb_not_planar}
 use Rattle.texels.specs.declared.Texel.{Texel}
 use Rattle.texels.specs.Texels.{encoded_bytes}
 use Rattle.places.specs.Places.{places_at, bytes_at}
-use Rattle.places.proofs.InsideLaws.{texel_fits, inside_at}
+use Rattle.places.proofs.InsideLaws.{texel_fits, inside_at, slice_within}
 use Rattle.stretch_rect.specs.Sets.{bt601}
 use Rattle.stretch_rect.specs.declared.sets.YuvSet.{YuvSet}
 use Rattle.regions.specs.declared.reply.Source.{Source}
@@ -21,38 +21,17 @@ use Rattle.regions.specs.declared.reply.ConvertRegion.{ConvertRegion}
 use Rattle.regions.specs.declared.reply.ConvertRefusal.{ConvertRefusal}
 use Rattle.regions.specs.Replies.{is_empty, source_inside, destination_inside, reply_with, if_accepted}
 use Rattle.regions.proofs.Fetch.{any_texel}
-use Rattle.regions.specs.Regions.{texel_at, to_at, odd_at, source_texel, written, row_written, slice_written, region_written, converted_with, InRegion, NearWith, OwnWith, OthersKept}
-use Rattle.regions.proofs.Checks.{convert_rgb, passed, sizes}
-use Rattle.regions.proofs.Promises.{destination_fits, near_source, own_bytes, others_kept}
+use Rattle.regions.specs.Regions.{texel_at, to_at, odd_at, source_texel, written, row_written, slice_written, region_written, converted_with, NearWith, OwnWith, OthersKept}
+use Rattle.regions.proofs.Checks.{convert_rgb, convert_is_source, rgb_is_source, one_slice, passed, sizes}
+use Rattle.regions.proofs.Promises.{destination_fits, empty_written, near_source, own_bytes, others_kept}
 use Rattle.regions.specs.Rows.{RowFits}
-
--- ---- an empty region
-none_empty : (r : ConvertRegion) → is_empty r ≡ true → (z row col : ℕ) → InRegion r z row col → ⊥
-unfolding is_empty
-none_empty r h z row col t = go (eqb r.width 0) (eqb r.height 0) (eqb r.depth 0) refl refl refl h
-  where
-    go : (a b c : Bool) → eqb r.width 0 ≡ a → eqb r.height 0 ≡ b → eqb r.depth 0 ≡ c → (a || b || c) ≡ true → ⊥
-    go true b c e f g k = omega (arith, eqb-true r.width 0 e, t.column)
-    go false true c e f g k = omega (arith, eqb-true r.height 0 f, t.line)
-    go false false true e f g k = omega (arith, eqb-true r.depth 0 g, t.slice)
-    go false false false e f g k = false≢true k
-
-empty_written : (numbers : YuvSet) (src dst : List ℕ) (s d : ℕ) (r : ConvertRegion) → is_empty r ≡ true → region_written numbers src s d r dst ≡ dst
-unfolding region_written slice_written row_written
-empty_written numbers src dst s d r h =
-    let P : List ℕ → Type 0 = λ b. b ≡ dst in
-    iterate_keeps P _ r.depth
-    (λ z zl. iterate_keeps P _ r.height
-    (λ row rl. iterate_keeps P _ r.width
-    (λ col cl b p. absurd (none_empty r h z row col (record { slice = zl; line = rl; column = cl })))))
-    dst refl
 
 -- ---- of texels with lanes the set is not looked at, and a YUV source is converted by its own
 any_set : (a b : YuvSet) (src : List ℕ) (s d : ℕ) (r : ConvertRegion) (l : List ℕ) → is_yuv s ≡ false → region_written a src s d r l ≡ region_written b src s d r l
 unfolding region_written slice_written row_written written source_texel texel_at
 any_set a b src s d r l h =
     ap (λ (t : Bool → List ℕ → Texel).
-    iterate (λ z. iterate (λ row. iterate (λ col dst. sets dst (to_at d r z row col) (encoded_bytes d (t (odd_at r col) (bytes_at src (places_at s r.source.pitch r.source.slice_pitch z (r.source.y + row) (r.source.x + col)))))) r.width) r.height) r.depth l)
+    iterate (λ z. iterate (λ row. iterate (λ col dst. sets dst (to_at d r z row col) (encoded_bytes d (t (odd_at r col) (bytes_at src (places_at s r.source z (r.source.y + row) (r.source.x + col)))))) r.width) r.height) r.depth l)
     (λ i odd bs. any_texel a b s odd bs h i)
 
 pub by_its_set : (numbers : YuvSet) (source : Source) → OfSet numbers source → (src : List ℕ) (d : ℕ) (r : ConvertRegion) (l : List ℕ)
@@ -100,17 +79,23 @@ module _ (numbers : YuvSet) (src dst : List ℕ) (s d : ℕ) (r : ConvertRegion)
       let c = q.pair in
       let i = q.source in
       let j = q.destination in
-      let w = (sizes r n).0 in
-      let source : (col : ℕ) → col < r.width → _ = λ col cl.
-      texel_fits (length src) s r.source.pitch r.source.slice_pitch z (r.source.y + row) (r.source.x + col)
-      (inside_at (length src) s r.source.pitch r.source.slice_pitch r.source.x r.source.y r.width r.height r.depth i z row col zl rl cl) in
-      let target : (col : ℕ) → col < r.width → _ = λ col cl.
-      texel_fits (length dst) d r.destination.pitch r.destination.slice_pitch z (r.destination.y + row) (r.destination.x + col)
-      (inside_at (length dst) d r.destination.pitch r.destination.slice_pitch r.destination.x r.destination.y r.width r.height r.depth j z row col zl rl cl) in
+      let some = sizes r n in
+      let w = some.0 in
+      let source_in : (z' col : ℕ) → z' < r.depth → col < r.width → _ = λ z' col zl' cl.
+      texel_fits (length src) s r.source z' (r.source.y + row) (r.source.x + col) (inside_at (length src) s r.source r.width r.height r.depth i z' row col zl' rl cl) in
+      let target_in : (z' col : ℕ) → z' < r.depth → col < r.width → _ = λ z' col zl' cl.
+      texel_fits (length dst) d r.destination z' (r.destination.y + row) (r.destination.x + col) (inside_at (length dst) d r.destination r.width r.height r.depth j z' row col zl' rl cl) in
+      let rgb = convert_rgb s d c in
       record {
         pair = c;
-        rows = (w, (source 0 w).row, (target 0 w).row);
-        source = source;
-        columns = λ col cl. (target col cl).column;
-        destination = λ col cl. destination_fits d r (length dst) (convert_rgb s d c) j z row col (record { slice = zl; line = rl; column = cl });
+        slices = (
+          slice_within (length src) s r.source z (r.source.y + row) (r.source.x + 0) (convert_is_source s d c) (λ p. one_slice s r q.shape p z zl)
+              (source_in 0 0 some.2 w).places (source_in z 0 zl w).places,
+          slice_within (length dst) d r.destination z (r.destination.y + row) (r.destination.x + 0) (rgb_is_source d rgb) (λ p. absurd (false≢true (sym (rgb_not_planar d rgb) ∙ p)))
+              (target_in 0 0 some.2 w).places (target_in z 0 zl w).places,
+        );
+        rows = (w, (source_in z 0 zl w).row, (target_in z 0 zl w).row);
+        source = λ col cl. source_in z col zl cl;
+        columns = λ col cl. (target_in z col zl cl).column;
+        destination = λ col cl. destination_fits d r (length dst) rgb j z row col (record { slice = zl; line = rl; column = cl });
       }

@@ -1,8 +1,9 @@
 -- What an accepted conversion has passed, and what a reply's number tells of it. Assumes nothing.
-use Rattle.std.specs.Prelude.{◌≡◌, refl, Bool, true, false, not, ◌&&◌, ◌||◌, ℕ, ◌<◌, eqb, Result, Ok, Err}
+use Rattle.std.specs.Prelude.{◌≡◌, refl, Bool, true, false, not, ◌&&◌, ◌||◌, ℕ, ◌%◌, ◌<◌, eqb, Result, Ok, Err}
 use Rattle.std.proofs.Common.{sym, ap, ◌∙◌, arith, eqb-true}
 use Rattle.std.proofs.lemmas.Bool.{false≢true}
 use Rattle.words.specs.Tests.{pick}
+use Rattle.words.specs.Integers.{up}
 use Rattle.words.proofs.TestsLaws.{not_zero}
 use Rattle.formats.specs.Codes.{A8R8G8B8}
 use Rattle.formats.specs.Classes.{is_convertible_rgb, is_packed_yuv, is_planar_yuv, is_yuv, is_argb_source, is_lane_source}
@@ -41,6 +42,17 @@ convert_source s d h n = go (is_convertible_rgb s) (is_packed_yuv s) (is_convert
     go false false b true false false h n = false≢true h
     go false false b false false false h n = false≢true h
 
+pub convert_is_source : (s d : ℕ) → can_convert s d ≡ true → is_source s ≡ true
+convert_is_source s d h = go (is_source s) refl
+  where
+    go : (b : Bool) → is_source s ≡ b → b ≡ true
+    go true e = refl
+    go false e = absurd (convert_source s d h e)
+
+pub rgb_is_source : (d : ℕ) → is_convertible_rgb d ≡ true → is_source d ≡ true
+unfolding is_lane_source
+rgb_is_source d h = rw h refl
+
 pub convert_target : (s d : ℕ) → can_convert s d ≡ true → is_convertible_rgb d ≡ false → ⊥
 convert_target s d h n = false≢true (sym n ∙ convert_rgb s d h)
 
@@ -73,6 +85,16 @@ passed numbers s d r n m ne h = go (can_convert s d) (bad_planar_shape s r) (ill
     go true false true e si di a b v f g i k = let x : ◌≡◌ {A = ℕ} 0 1 = cc in clash 0 1 x (omega arith)
     go true true w e si di a b v f g i k = let x : ◌≡◌ {A = ℕ} 0 1 = cc in clash 0 1 x (omega arith)
     go false p w e si di a b v f g i k = let x : ◌≡◌ {A = ℕ} 0 1 = cc in clash 0 1 x (omega arith)
+
+-- a planar source that is not refused has one slice
+pub one_slice : (s : ℕ) (r : ConvertRegion) → bad_planar_shape s r ≡ false → is_planar_yuv s ≡ true → (z : ℕ) → z < r.depth → z ≡ 0
+unfolding bad_planar_shape
+one_slice s r h p z l = go (is_planar_yuv s) (eqb r.depth 1) (eqb (up r.source.pitch) 0) (not (eqb (r.source.slice_pitch % up r.source.pitch) 0)) p refl h
+  where
+    go : (a b c d : Bool) → a ≡ true → eqb r.depth 1 ≡ b → (a && (not b || c || d)) ≡ false → z ≡ 0
+    go true true c d e g k = omega (arith, eqb-true r.depth 1 g, l)
+    go true false c d e g k = absurd (false≢true (sym k))
+    go false b c d e g k = absurd (false≢true e)
 
 -- ---- where a set is not looked at, or legal
 pub legal_fits : (numbers : YuvSet) (s : ℕ) → is_legal numbers ≡ true → illegal_set s numbers ≡ false

@@ -1,5 +1,5 @@
 -- The source texel by the kind of its picture, and what an offset that is worked out afresh stays below. Assumes nothing.
-use Rattle.std.specs.Prelude.{◌≡◌, refl, Bool, true, false, ◌&&◌, ◌||◌, eqb, ltb, length, take, drop, List, [], ◌∷◌, ℕ, ◌+◌, ◌/◌, ◌%◌, ◌≤◌, ◌<◌}
+use Rattle.std.specs.Prelude.{◌≡◌, refl, Bool, true, false, ◌&&◌, ◌||◌, eqb, ltb, length, take, drop, List, [], ◌∷◌, ℕ, ◌+◌, ◌/◌, ◌%◌, ◌<◌}
 use Rattle.std.proofs.Common.{sym, ap₂, ◌∙◌, arith, get_or-take, ltb-true, ap}
 use Rattle.std.proofs.lemmas.Bool.{false≢true, and_parts}
 use Rattle.std.proofs.lemmas.List.Edits.{sets}
@@ -15,8 +15,11 @@ use Rattle.planar_yuv.specs.declared.PlanarYuvLayout.{PlanarYuvLayout}
 use Rattle.planar_yuv.specs.Offsets.{contains, luma_offset_at, u_offset_at, v_offset_at}
 use Rattle.planar_yuv.proofs.OffsetsLaws.{contains_is, contains_yes}
 use Rattle.planar_yuv.specs.Answers.{Legal}
-use Rattle.places.specs.Places.{absent, offsets, run, texel_start, layout_places, planar_places, places_at, places_in, bytes_at}
-use Rattle.places.proofs.InsideLaws.{lane_places, packed_places_lem, planar_places_lem, bytes_run}
+use Rattle.words.specs.Integers.{up}
+use Rattle.places.specs.declared.Side.{Side}
+use Rattle.places.specs.Inside.{EndsWithin}
+use Rattle.places.specs.Places.{absent, offsets, run, place_of, from_place, started, layout_places, planar_places, places_at, places_in, bytes_at}
+use Rattle.places.proofs.InsideLaws.{places_at_lanes, places_at_packed, places_at_planar, bytes_run}
 use Rattle.stretch_rect.specs.declared.sets.YuvSet.{YuvSet}
 use Rattle.stretch_rect.specs.Yuv.{rgb_of}
 use Rattle.stretch_rect.specs.Samples.{luma_place, u_place, v_place, packed_rgb, planar_rgb, Readable}
@@ -37,30 +40,30 @@ kind f {A} h p q = go (is_planar_yuv f) (is_packed_yuv f) refl refl h
     go false true e g k = p e g
     go false false e g k = absurd (false≢true k)
 
-module _ (numbers : YuvSet) (src : List ℕ) (f pitch slice_pitch z y x : ℕ) where
+module _ (numbers : YuvSet) (src : List ℕ) (f : ℕ) (side : Side) (z y x : ℕ) where
   -- ---- the texel of each kind
-  pub lane_texel : is_planar_yuv f ≡ false → is_packed_yuv f ≡ false → texel_start pitch slice_pitch (bytes_of f) z y x + bytes_of f ≤ length src
-      → texel_at numbers src f pitch slice_pitch z y x ≡ decoded_of f (number (take (bytes_of f) (drop (texel_start pitch slice_pitch (bytes_of f) z y x) src)))
+  pub lane_texel : (at : ℕ) → is_planar_yuv f ≡ false → is_packed_yuv f ≡ false → EndsWithin (length src) (bytes_of f) (place_of side (bytes_of f) z y x) at
+      → texel_at numbers src f side z y x ≡ decoded_of f (number (take (bytes_of f) (drop at src)))
   unfolding texel_at texel_of bytes_at
-  lane_texel p q h =
-      ap (λ l. texel_of numbers f (eqb (x % 2) 1) (bytes_at src l)) (lane_places f pitch slice_pitch z y x p q)
+  lane_texel at p q h =
+      ap (λ l. texel_of numbers f (eqb (x % 2) 1) (bytes_at src l)) (places_at_lanes f side z y x p q ∙ ap (λ k. from_place k (bytes_of f)) h.place)
       ∙ ap (λ b. pick b (opaque_of (rgb_of numbers (luma_of f (eqb (x % 2) 1) bs) (u_of f bs) (v_of f bs))) (decoded_of f (number bs))) (no_yuv f p q)
-      ∙ ap (λ l. decoded_of f (number l)) (bytes_run (bytes_of f) (texel_start pitch slice_pitch (bytes_of f) z y x) src h)
+      ∙ ap (λ l. decoded_of f (number l)) (bytes_run (bytes_of f) at src h.end)
     where
       bs : List ℕ
-      bs = bytes_at src (offsets (run (texel_start pitch slice_pitch (bytes_of f) z y x) (bytes_of f)))
+      bs = bytes_at src (offsets (run at (bytes_of f)))
 
-  pub packed_texel : is_planar_yuv f ≡ false → is_packed_yuv f ≡ true → texel_start pitch slice_pitch 4 z y (x / 2) + 4 ≤ length src
-      → texel_at numbers src f pitch slice_pitch z y x ≡ texel_of numbers f (eqb (x % 2) 1) (take 4 (drop (texel_start pitch slice_pitch 4 z y (x / 2)) src))
+  pub packed_texel : (at : ℕ) → is_planar_yuv f ≡ false → is_packed_yuv f ≡ true → EndsWithin (length src) 4 (place_of side 4 z y (x / 2)) at
+      → texel_at numbers src f side z y x ≡ texel_of numbers f (eqb (x % 2) 1) (take 4 (drop at src))
   unfolding texel_at bytes_at
-  packed_texel p q h =
-      ap (λ l. texel_of numbers f (eqb (x % 2) 1) (bytes_at src l)) (packed_places_lem f pitch slice_pitch z y x p q)
-      ∙ ap (texel_of numbers f (eqb (x % 2) 1)) (bytes_run 4 (texel_start pitch slice_pitch 4 z y (x / 2)) src h)
+  packed_texel at p q h =
+      ap (λ l. texel_of numbers f (eqb (x % 2) 1) (bytes_at src l)) (places_at_packed f side z y x p q ∙ ap (λ k. from_place k 4) h.place)
+      ∙ ap (texel_of numbers f (eqb (x % 2) 1)) (bytes_run 4 at src h.end)
 
   pub planar_texel : is_planar_yuv f ≡ true
-      → texel_at numbers src f pitch slice_pitch z y x ≡ texel_of numbers f (eqb (x % 2) 1) (bytes_at src (planar_places f pitch (slice_pitch / pitch) y x))
+      → texel_at numbers src f side z y x ≡ texel_of numbers f (eqb (x % 2) 1) (bytes_at src (started side.start (planar_places f (up side.pitch) (side.slice_pitch / up side.pitch) y x)))
   unfolding texel_at
-  planar_texel p = ap (λ l. texel_of numbers f (eqb (x % 2) 1) (bytes_at src l)) (planar_places_lem f pitch slice_pitch z y x p)
+  planar_texel p = ap (λ l. texel_of numbers f (eqb (x % 2) 1) (bytes_at src l)) (places_at_planar f side z y x p)
 
 -- ---- a source that is no YUV has no use for the set
 pub any_texel : (a b : YuvSet) (f : ℕ) (odd : Bool) (bs : List ℕ) → is_yuv f ≡ false → texel_of a f odd bs ≡ texel_of b f odd bs
@@ -73,7 +76,7 @@ any_row : (a b : YuvSet) (src : List ℕ) (s d : ℕ) (r : ConvertRegion) (z row
 unfolding row_written written source_texel texel_at
 any_row a b src s d r z row dst h =
     iterate_same _ _ r.width dst
-    (λ col l w. ap (λ t. sets w (to_at d r z row col) (encoded_bytes d t)) (any_texel a b s _ (bytes_at src (places_at s r.source.pitch r.source.slice_pitch z (r.source.y + row) (r.source.x + col))) h))
+    (λ col l w. ap (λ t. sets w (to_at d r z row col) (encoded_bytes d t)) (any_texel a b s _ (bytes_at src (places_at s r.source z (r.source.y + row) (r.source.x + col))) h))
 
 -- so has a row of a source with lanes
 pub any_set : (a b : YuvSet) (src : List ℕ) (s d : ℕ) (r : ConvertRegion) (z row : ℕ) (dst : List ℕ) → is_lane_source s ≡ true → row_written a src s d r z row dst ≡ row_written b src s d r z row dst

@@ -1,5 +1,7 @@
 -- Near, own and kept hold of every conversion. Assumes nothing.
-use Rattle.std.proofs.Common.{◌≡◌, refl, Bool, true, false, ℤ, length, get_or, take, drop, Result, Ok, Err, sym, ap, ◌∙◌, subst, div-one, ne_eqb, List, [], ◌∷◌, ℕ, zero, suc, ◌+◌, ◌-◌, ◌/◌, ◌^◌, ◌≤◌, ◌<◌, arith}
+use Rattle.std.proofs.Common.{◌≡◌, refl, Bool, true, false, ◌||◌, eqb, eqb-true, ℤ, length, get_or, take, drop, Result, Ok, Err, sym, ap, ◌∙◌, subst, div-one, ne_eqb, List, [], ◌∷◌, ℕ, zero, suc, ◌+◌, ◌-◌, ◌/◌, ◌^◌, ◌<◌, arith}
+use Rattle.std.proofs.lemmas.Bool.{false≢true}
+use Rattle.words.proofs.IterateLaws.{iterate_keeps}
 use Rattle.words.specs.Little.{number}
 use Rattle.words.specs.Tests.{pick}
 use Rattle.words.proofs.IntegersLaws.{clamp_byte}
@@ -25,9 +27,31 @@ use Rattle.stretch_rect.proofs.ExactLaws.{RgbStands, bt601_stands, set_stands}
 use Rattle.regions.specs.declared.reply.ConvertRegion.{ConvertRegion}
 use Rattle.regions.specs.declared.reply.ConvertRefusal.{ConvertRefusal}
 use Rattle.regions.specs.Replies.{is_empty, destination_inside, reply_to, if_accepted}
-use Rattle.regions.specs.Regions.{luma_of, u_of, v_of, opaque_of, texel_of, clamped_values, yuv_values, values_of, texel_at, exact_at, to_at, source_bytes, odd_at, source_texel, source_values, region_written, converted_with, InRegion, Disjoint, NearWith, HoldsByte, HoldsColour, OwnWith, OthersKept}
+use Rattle.regions.specs.Regions.{luma_of, u_of, v_of, opaque_of, texel_of, clamped_values, yuv_values, values_of, texel_at, exact_at, to_at, source_bytes, odd_at, source_texel, source_values, row_written, slice_written, region_written, converted_with, InRegion, Disjoint, NearWith, HoldsByte, HoldsColour, OwnWith, OthersKept}
+use Rattle.regions.specs.Rows.{LiesIn}
 use Rattle.regions.proofs.Stored.{region_other, region_own}
 use Rattle.regions.proofs.Checks.{convert_rgb, passed}
+
+-- ---- an empty region
+none_empty : (r : ConvertRegion) → is_empty r ≡ true → (z row col : ℕ) → InRegion r z row col → ⊥
+unfolding is_empty
+none_empty r h z row col t = go (eqb r.width 0) (eqb r.height 0) (eqb r.depth 0) refl refl refl h
+  where
+    go : (a b c : Bool) → eqb r.width 0 ≡ a → eqb r.height 0 ≡ b → eqb r.depth 0 ≡ c → (a || b || c) ≡ true → ⊥
+    go true b c e f g k = omega (arith, eqb-true r.width 0 e, t.column)
+    go false true c e f g k = omega (arith, eqb-true r.height 0 f, t.line)
+    go false false true e f g k = omega (arith, eqb-true r.depth 0 g, t.slice)
+    go false false false e f g k = false≢true k
+
+pub empty_written : (numbers : YuvSet) (src dst : List ℕ) (s d : ℕ) (r : ConvertRegion) → is_empty r ≡ true → region_written numbers src s d r dst ≡ dst
+unfolding region_written slice_written row_written
+empty_written numbers src dst s d r h =
+    let P : List ℕ → Type 0 = λ b. b ≡ dst in
+    iterate_keeps P _ r.depth
+    (λ z zl. iterate_keeps P _ r.height
+    (λ row rl. iterate_keeps P _ r.width
+    (λ col cl b p. absurd (none_empty r h z row col (record { slice = zl; line = rl; column = cl })))))
+    dst refl
 
 -- ---- a region with a texel
 pub not_empty : (r : ConvertRegion) (z row col : ℕ) → InRegion r z row col → is_empty r ≡ false
@@ -37,13 +61,13 @@ not_empty r z row col t =
 
 -- ---- a destination texel's bytes lie within the destination
 pub destination_fits : (d : ℕ) (r : ConvertRegion) (m : ℕ) → is_convertible_rgb d ≡ true → destination_inside m d r ≡ true
-    → (z row col : ℕ) → InRegion r z row col → to_at d r z row col + bytes_of d ≤ m
+    → (z row col : ℕ) → InRegion r z row col → LiesIn d r m z row col
 unfolding destination_inside to_at
 destination_fits d r m rgb h z row col t =
     let y = r.destination.y + row in
     let x = r.destination.x + col in
-    let k = texel_fits m d r.destination.pitch r.destination.slice_pitch z y x (inside_at m d r.destination.pitch r.destination.slice_pitch r.destination.x r.destination.y r.width r.height r.depth h z row col t.slice t.line t.column) in
-    lane_ends m d r.destination.pitch r.destination.slice_pitch z y x k.places (rgb_not_planar d rgb) (rgb_not_packed d rgb) (rgb_some d rgb)
+    let k = texel_fits m d r.destination z y x (inside_at m d r.destination r.width r.height r.depth h z row col t.slice t.line t.column) in
+    lane_ends m d r.destination z y x k.places (rgb_not_planar d rgb) (rgb_not_packed d rgb) (rgb_some d rgb)
 
 -- ---- what an accepted conversion stores at a texel that shares no byte
 stored : (numbers : YuvSet) (src dst : List ℕ) (s d : ℕ) (r : ConvertRegion) → reply_to numbers s d r (length src) (length dst) ≡ Ok tt → Disjoint d r
@@ -51,8 +75,9 @@ stored : (numbers : YuvSet) (src dst : List ℕ) (s d : ℕ) (r : ConvertRegion)
 unfolding converted_with
 stored numbers src dst s d r h apart z row col t =
     let q = passed numbers s d r (length src) (length dst) (not_empty r z row col t) h in
+    let rgb = convert_rgb s d q.pair in
     ap (λ a. take (bytes_of d) (drop (to_at d r z row col) (if_accepted a (region_written numbers src s d r dst) dst))) h
-    ∙ region_own numbers src s d r apart z row col t (length dst) (destination_fits d r (length dst) (convert_rgb s d q.pair) q.destination z row col t) dst refl
+    ∙ region_own numbers src s d r rgb (length dst) (destination_fits d r (length dst) rgb q.destination) apart z row col t dst refl
 
 -- the texel of a YUV source
 yuv_texel : (numbers : YuvSet) (src : List ℕ) (s : ℕ) (r : ConvertRegion) (z row col : ℕ) → is_yuv s ≡ true
@@ -155,8 +180,16 @@ own_bytes numbers src dst s d r h apart yuv z row col t =
 -- ---- kept
 pub others_kept : (numbers : YuvSet) (src dst : List ℕ) (s d : ℕ) (r : ConvertRegion) → OthersKept dst (converted_with numbers src dst s d r) d r
 unfolding converted_with
-others_kept numbers src dst s d r k none = go (reply_to numbers s d r (length src) (length dst))
+others_kept numbers src dst s d r k none = go (reply_to numbers s d r (length src) (length dst)) refl
   where
-    go : (a : Result (Unit {0}) ConvertRefusal) → get_or (if_accepted a (region_written numbers src s d r dst) dst) k 0 ≡ get_or dst k 0
-    go (Ok _) = region_other numbers src s d r k none dst
-    go (Err _) = refl
+    -- a byte of some texel is one of a pair that converts, and all of its texels lie in the destination
+    kept : reply_to numbers s d r (length src) (length dst) ≡ Ok tt → (e : Bool) → is_empty r ≡ e → get_or (region_written numbers src s d r dst) k 0 ≡ get_or dst k 0
+    kept h true e = ap (λ l. get_or l k 0) (empty_written numbers src dst s d r e)
+    kept h false e =
+        let q = passed numbers s d r (length src) (length dst) e h in
+        let rgb = convert_rgb s d q.pair in
+        region_other numbers src s d r rgb (length dst) k (destination_fits d r (length dst) rgb q.destination) none dst
+
+    go : (a : Result (Unit {0}) ConvertRefusal) → reply_to numbers s d r (length src) (length dst) ≡ a → get_or (if_accepted a (region_written numbers src s d r dst) dst) k 0 ≡ get_or dst k 0
+    go (Ok _) h = kept h (is_empty r) refl
+    go (Err _) h = refl

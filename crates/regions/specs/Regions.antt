@@ -1,8 +1,9 @@
 -- What converting a region is: the bytes, and what holds of them.
 -- Assumes nothing.
-use Rattle.std.specs.Prelude.{◌≡◌, Bool, true, List, ℕ, ◌+◌, ◌%◌, ◌≤◌, ◌<◌, eqb, ℤ, get_or, take, drop, Ok}
+use Rattle.std.specs.Prelude.{◌≡◌, Bool, true, List, ℕ, ◌+◌, ◌%◌, ◌<◌, eqb, ℤ, get_or, take, drop, Ok}
 use Rattle.std.proofs.lemmas.List.Edits.{sets}
 use Rattle.words.specs.Tests.{pick}
+use Rattle.words.specs.Integers.{up}
 use Rattle.words.specs.Little.{number}
 use Rattle.words.specs.Iterate.{iterate}
 use Rattle.formats.specs.Lanes.{Channel, red, green, blue, Lane, nowhere, at, code_at}
@@ -11,7 +12,8 @@ use Rattle.formats.specs.Classes.{is_packed_yuv, is_yuv}
 use Rattle.channels.specs.Fractions.{◌over◌}
 use Rattle.texels.specs.declared.Texel.{Texel}
 use Rattle.texels.specs.Texels.{decoded_of, encoded_bytes, exact_of, Values, value_of, is_colour, Holds}
-use Rattle.places.specs.Places.{texel_start, places_at, bytes_at}
+use Rattle.places.specs.declared.Side.{Side}
+use Rattle.places.specs.Places.{region_place, places_at, HasByte, bytes_at}
 use Rattle.stretch_rect.specs.declared.sets.YuvSet.{YuvSet}
 use Rattle.stretch_rect.specs.Sets.{bt601, same_set}
 use Rattle.stretch_rect.specs.declared.Rgb.{Rgb}
@@ -57,22 +59,22 @@ yuv_values numbers y u v =
 unfoldable pub values_of : YuvSet → (f : ℕ) (odd : Bool) (bytes : List ℕ) → Values
 values_of numbers f odd bs = pick (is_yuv f) (yuv_values numbers (luma_of f odd bs) (u_of f bs) (v_of f bs)) (exact_of f (number bs))
 
--- the source texel at slice z, row y, column x
-unfoldable pub texel_at : YuvSet → (src : List ℕ) (f pitch slice_pitch z y x : ℕ) → Texel
-texel_at numbers src f pitch slice_pitch z y x = texel_of numbers f (eqb (x % 2) 1) (bytes_at src (places_at f pitch slice_pitch z y x))
+-- the texel of a side's picture at slice z, row y, column x
+unfoldable pub texel_at : YuvSet → (src : List ℕ) (f : ℕ) → Side → (z y x : ℕ) → Texel
+texel_at numbers src f side z y x = texel_of numbers f (eqb (x % 2) 1) (bytes_at src (places_at f side z y x))
 
 -- its exact values
-unfoldable pub exact_at : YuvSet → (src : List ℕ) (f pitch slice_pitch z y x : ℕ) → Values
-exact_at numbers src f pitch slice_pitch z y x = values_of numbers f (eqb (x % 2) 1) (bytes_at src (places_at f pitch slice_pitch z y x))
+unfoldable pub exact_at : YuvSet → (src : List ℕ) (f : ℕ) → Side → (z y x : ℕ) → Values
+exact_at numbers src f side z y x = values_of numbers f (eqb (x % 2) 1) (bytes_at src (places_at f side z y x))
 
 -- ---- the bytes
--- where the destination texel at (z, row, col) of a region starts
+-- where the destination texel at (z, row, col) of a region starts, which for a texel that is inside is not below 0
 unfoldable pub to_at : (d : ℕ) → ConvertRegion → (z row col : ℕ) → ℕ
-to_at d r z row col = texel_start r.destination.pitch r.destination.slice_pitch (bytes_of d) z (r.destination.y + row) (r.destination.x + col)
+to_at d r z row col = up (region_place r.destination (bytes_of d) z row col)
 
 -- the bytes of the source texel at (z, row, col) of a region
 unfoldable pub source_bytes : (src : List ℕ) (s : ℕ) → ConvertRegion → (z row col : ℕ) → List ℕ
-source_bytes src s r z row col = bytes_at src (places_at s r.source.pitch r.source.slice_pitch z (r.source.y + row) (r.source.x + col))
+source_bytes src s r z row col = bytes_at src (places_at s r.source z (r.source.y + row) (r.source.x + col))
 
 -- whether its column is odd
 abbrev pub odd_at : ConvertRegion → (col : ℕ) → Bool
@@ -80,11 +82,11 @@ odd_at r col = eqb ((r.source.x + col) % 2) 1
 
 -- the source texel at (z, row, col) of a region
 unfoldable pub source_texel : YuvSet → (src : List ℕ) (s : ℕ) → ConvertRegion → (z row col : ℕ) → Texel
-source_texel numbers src s r z row col = texel_at numbers src s r.source.pitch r.source.slice_pitch z (r.source.y + row) (r.source.x + col)
+source_texel numbers src s r z row col = texel_at numbers src s r.source z (r.source.y + row) (r.source.x + col)
 
 -- its exact values
 unfoldable pub source_values : YuvSet → (src : List ℕ) (s : ℕ) → ConvertRegion → (z row col : ℕ) → Values
-source_values numbers src s r z row col = exact_at numbers src s r.source.pitch r.source.slice_pitch z (r.source.y + row) (r.source.x + col)
+source_values numbers src s r z row col = exact_at numbers src s r.source z (r.source.y + row) (r.source.x + col)
 
 -- one texel written
 unfoldable pub written : YuvSet → (src : List ℕ) (s d : ℕ) → ConvertRegion → (z row col : ℕ) → List ℕ → List ℕ
@@ -118,9 +120,8 @@ pub record InRegion (r : ConvertRegion) (z row col : ℕ) : Type 0 where
   pub column : col < r.width
 
 -- byte k is one of the destination texel at (z, row, col)
-pub record ByteOf (d : ℕ) (r : ConvertRegion) (z row col k : ℕ) : Type 0 where
-  pub first : to_at d r z row col ≤ k
-  pub last : k < to_at d r z row col + bytes_of d
+abbrev pub ByteOf : (d : ℕ) → ConvertRegion → (z row col k : ℕ) → Type 0
+ByteOf d r z row col k = HasByte (places_at d r.destination z (r.destination.y + row) (r.destination.x + col)) k
 
 -- destination texels share no byte: two that have a byte in common are one
 unfoldable pub Disjoint : (d : ℕ) → ConvertRegion → Type 0

@@ -2,6 +2,7 @@
 -- Assumes nothing.
 use Rattle.std.specs.Prelude.{Bool, not, ◌&&◌, ◌||◌, List, [], ◌∷◌, ℕ, ◌%◌, eqb, length, Result, Ok, Err}
 use Rattle.words.specs.Tests.{pick}
+use Rattle.words.specs.Integers.{up}
 use Rattle.formats.specs.Codes.{A8R8G8B8}
 use Rattle.formats.specs.Classes.{is_convertible_rgb, is_packed_yuv, is_planar_yuv, is_yuv, is_argb_source}
 use Rattle.places.specs.Places.{inside_all}
@@ -21,11 +22,11 @@ unfoldable pub can_convert : (source destination : ℕ) → Bool
 can_convert s d = can_convert_update s d || (eqb d A8R8G8B8 && is_argb_source s) || (is_planar_yuv s && is_convertible_rgb d)
 
 -- ---- the reply
--- a planar source that has more than one slice, no pitch, or a slice that is no whole number of rows
+-- a planar source that has other than one slice, a pitch that is not above 0, or a slice that is no whole number of rows
 unfoldable pub bad_planar_shape : (f : ℕ) → ConvertRegion → Bool
 bad_planar_shape f r =
     is_planar_yuv f
-    && (not (eqb r.depth 1) || eqb r.source.pitch 0 || not (eqb (r.source.slice_pitch % r.source.pitch) 0))
+    && (not (eqb r.depth 1) || eqb (up r.source.pitch) 0 || not (eqb (r.source.slice_pitch % up r.source.pitch) 0))
 
 -- a YUV source with a set of numbers that is not legal; of any other source the set is not looked at
 unfoldable pub illegal_set : (f : ℕ) → YuvSet → Bool
@@ -37,11 +38,11 @@ is_empty r = eqb r.width 0 || eqb r.height 0 || eqb r.depth 0
 
 -- every source texel of the region lies inside a source of len bytes
 unfoldable pub source_inside : (len f : ℕ) → ConvertRegion → Bool
-source_inside len f r = inside_all len f r.source.pitch r.source.slice_pitch r.source.x r.source.y r.width r.height r.depth
+source_inside len f r = inside_all len f r.source r.width r.height r.depth
 
 -- every destination texel of the region lies inside a destination of len bytes
 unfoldable pub destination_inside : (len f : ℕ) → ConvertRegion → Bool
-destination_inside len f r = inside_all len f r.destination.pitch r.destination.slice_pitch r.destination.x r.destination.y r.width r.height r.depth
+destination_inside len f r = inside_all len f r.destination r.width r.height r.depth
 
 -- a test and the reply where it is met
 pub record Check : Type 0 where

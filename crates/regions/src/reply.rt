@@ -1,8 +1,8 @@
 //! The reply to a conversion, decided before any byte is written: which pairs of formats convert,
 //! and which regions are refused. Refused are a pair that does not convert (1), a planar source
-//! that is no single slice of whole rows (2), a YUV source with a set of numbers that is not legal
-//! (15), and a region with a texel outside the source (3) or the destination (4). specs/Replies has
-//! the checks in their order.
+//! that is no single slice of whole rows or whose pitch is not above 0 (2), a YUV source with a set
+//! of numbers that is not legal (15), and a region with a texel outside the source (3) or the
+//! destination (4). specs/Replies has the checks in their order.
 //! Ported from pixel_convert.rs of athei/mtld3d (an altered version, see NOTICE).
 #![tactic(auto)]
 
@@ -90,7 +90,7 @@ pub enum Source {
 pub enum ConvertRefusal {
     /// The pair of formats does not convert: 1.
     Unsupported,
-    /// The planar source is no single slice of whole rows: 2.
+    /// The planar source is no single slice of whole rows, or its pitch is not above 0: 2.
     PlanarShape,
     /// A source texel is outside the source: 3.
     SourceOutside,
@@ -135,16 +135,15 @@ pub fn can_convert(src_format: u32, dst_format: u32) -> bool
         || (formats::is_planar_yuv(src_format) && formats::is_convertible_rgb(dst_format))
 }
 
-// Whether a planar source has more than one slice, no pitch, or a slice that is no whole number of
-// rows.
+// Whether a planar source has other than one slice, a pitch that is not above 0, or a slice that is
+// no whole number of rows.
 #[tactic(auto, unfolding(crate::specs::Replies::bad_planar_shape))]
 fn bad_planar_shape(source: SourceFormat, region: &ConvertRegion) -> bool
     ensures { result ≡ bad_planar_shape (source_code source) region.now }
 {
+    let pitch = region.source.pitch_on();
     source.is_planar()
-        && (region.depth != 1
-            || region.source.pitch == 0
-            || region.source.slice_pitch % region.source.pitch != 0)
+        && (region.depth != 1 || pitch == 0 || region.source.slice_pitch % pitch != 0)
 }
 
 // What is read of a source format, a YUV one by these numbers; `None` where they are not legal.

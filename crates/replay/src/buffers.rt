@@ -1,6 +1,6 @@
 //! Cases of the public calls that are lent buffers. A record of the files `buffers`, `sets` and
 //! `wrong_buffers` has 512 bytes: the call's number and 1 for a refusal (else 0), of 32 bits each;
-//! fifteen parameters of 64 bits, the lengths of the lent buffers first; three areas of 72 bytes
+//! seventeen parameters of 64 bits, the lengths of the lent buffers first; three areas of 72 bytes
 //! that hold the buffers before the call, and two that hold what is written after it. An area is
 //! longer than what is lent of it, and every byte of it is compared.
 ghost use Rattle.std.specs.Prelude.{◌≡◌, ◌≤◌, ◌<◌, length};
@@ -43,7 +43,7 @@ impl<'a> Record<'a, 512> {
         ensures { length result.now ≡ 72 }
     {
         let bytes = self.bytes;
-        bytes[128 + 72 * place..].first_chunk().unwrap()
+        bytes[144 + 72 * place..].first_chunk().unwrap()
     }
 
     // How much is lent of an area.
@@ -62,24 +62,27 @@ impl<'a> Record<'a, 512> {
         &area[..self.length(place)]
     }
 
+    // A side of a conversion's record: five parameters from one on.
+    fn side(self, first: usize) -> Side
+        requires { first ≤ 9 }
+    {
+        Side {
+            start: self.long(first),
+            pitch: self.long(first + 1).cast_signed(),
+            slice_pitch: self.size(first + 2),
+            x: self.number(first + 3),
+            y: self.number(first + 4),
+        }
+    }
+
     // The region of a conversion's record.
     fn region(self) -> ConvertRegion {
         ConvertRegion {
-            source: Side {
-                pitch: self.size(10),
-                slice_pitch: self.size(12),
-                x: self.number(4),
-                y: self.number(5),
-            },
-            destination: Side {
-                pitch: self.size(11),
-                slice_pitch: self.size(13),
-                x: self.number(6),
-                y: self.number(7),
-            },
+            source: self.side(4),
+            destination: self.side(9),
             depth: self.size(14),
-            width: self.number(8),
-            height: self.number(9),
+            width: self.number(15),
+            height: self.number(16),
         }
     }
 
@@ -108,8 +111,9 @@ impl<'a> Record<'a, 512> {
     }
 }
 
-// Parameters: lengths of source and destination; formats of destination and source; then the
-// region's eleven numbers. Areas: source, destination; destination after.
+// Parameters: lengths of source and destination; formats of destination and source; then of source
+// and destination each start, pitch, slice pitch, column and row; depth, width and height. Areas:
+// source, destination; destination after.
 fn convert_region(record: Record<'_, 512>) -> bool {
     let mut dst = *record.area(1);
     let reply = pixel_convert::convert_region(

@@ -1,7 +1,8 @@
 -- The numbers of bt601 are its decimals, rounded to 65536ths: so near that each byte is within 1/2 + 1/500 of what the
 -- decimals define, clamped. Assumes nothing.
 use Rattle.std.proofs.Common.{◌≡◌, ℕ, ◌+◌, ◌*◌, ◌<◌, ◌≤◌, ℤ, pos, ◌-ℤ◌, ◌*ℤ◌, ap, ⊎_elim, arith}
-use Rattle.words.proofs.IntegersLaws.{up, dn, one_zero, sum, difference, times_up, times_dn, scaled_difference}
+use Rattle.words.specs.Integers.{up}
+use Rattle.words.proofs.IntegersLaws.{dn, one_zero, sum, difference, times_up, times_dn, scaled_difference}
 use Rattle.stretch_rect.specs.Sets.{bt601}
 use Rattle.stretch_rect.specs.Yuv.{set_unit, set_slack, decimal_unit, decimal_slack, ByteNear, RgbNear, rgb_of, red_exact, green_exact, blue_exact, luma_exact, chroma_exact, luma_decimal, chroma_decimal, red_decimal, green_decimal, blue_decimal}
 use Rattle.stretch_rect.proofs.NearnessLaws.{clamp_is, set_near}

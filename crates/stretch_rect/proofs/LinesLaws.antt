@@ -2,8 +2,8 @@
 use Rattle.std.specs.Prelude.{◌≡◌, ℕ, ◌+◌, ◌*◌, ◌/◌, ◌≤◌, ◌<◌, ℤ, pos, negsuc, ◌-ℤ◌, ◌*ℤ◌}
 use Rattle.std.proofs.Common.{sym, ap, ◌∙◌, ⊎_elim, arith, mul_assoc, mul_comm, mul-le-mul, lit<}
 use Rattle.std.proofs.lemmas.Int.{ints}
-use Rattle.words.specs.Integers.{floor_div}
-use Rattle.words.proofs.IntegersLaws.{up, dn, up_pos, dn_pos, one_zero, difference, floor_low, floor_high, scaled_difference}
+use Rattle.words.specs.Integers.{floor_div, up}
+use Rattle.words.proofs.IntegersLaws.{dn, up_pos, dn_pos, one_zero, difference, floor_low, floor_high, scaled_difference}
 use Rattle.stretch_rect.specs.Yuv.{luma_part, chroma_part, luma_exact}
 use Rattle.stretch_rect.proofs.PartLaws.{chroma_part_is}
 use Rattle.stretch_rect.specs.Parts.{PartSize}

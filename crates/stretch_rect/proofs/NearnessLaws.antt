@@ -3,8 +3,8 @@ use Rattle.std.specs.Prelude.{◌≡◌, refl, ℕ, ◌+◌, ◌*◌, ◌<◌, �
 use Rattle.std.proofs.Common.{sym, ap, ◌∙◌, ⊎_elim, arith, mul-le-mul_right, lit<}
 use Rattle.std.proofs.Math.Nat.{min-eq_left, min-eq_right}
 use Rattle.std.proofs.Math.Decide.{dec_le}
-use Rattle.words.specs.Integers.{floor_div, clamp_to}
-use Rattle.words.proofs.IntegersLaws.{up, dn, up_pos, dn_pos, one_zero, sum, difference, floor_low, floor_high}
+use Rattle.words.specs.Integers.{floor_div, clamp_to, up}
+use Rattle.words.proofs.IntegersLaws.{dn, up_pos, dn_pos, one_zero, sum, difference, floor_low, floor_high}
 use Rattle.stretch_rect.specs.Yuv.{set_unit, set_slack, nearest_whole, ByteNear, RgbNear, rgb_of, red_rounded, green_rounded, blue_rounded, red_exact, green_exact, blue_exact, luma_part, chroma_part, luma_exact, chroma_exact}
 use Rattle.stretch_rect.specs.declared.sets.YuvSet.{YuvSet}
 

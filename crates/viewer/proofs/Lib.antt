@@ -3,6 +3,7 @@ pub mod AccuracyLaws
 pub mod UntouchedLaws
 pub mod SetsLaws
 pub mod NearestLaws
+pub mod PicturesLaws
 pub mod Binary16Laws
 pub mod FillsLaws
 pub mod LanesLaws

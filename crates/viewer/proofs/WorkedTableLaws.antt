@@ -30,7 +30,7 @@ use Rattle.planar_yuv.specs.Answers as answers
 use Rattle.viewer.specs.WorkedTable.{ColumnsAgree}
 
 pub columns_agree : ColumnsAgree
-unfolding integers.clamp_to
+unfolding integers.clamp_to integers.up
     loops.iterate loops.all
     classes.is_convertible_rgb classes.is_packed_yuv classes.is_planar_yuv classes.is_argb_source classes.is_lane_source classes.linear_row_pitch
     lanes.parts_of lanes.lane_of lanes.bytes_of
@@ -39,7 +39,7 @@ unfolding integers.clamp_to
     mean.luminance_of
     numbers.is_legal yuv.luma_exact yuv.chroma_exact yuv.luma_part yuv.chroma_part yuv.nearest_whole yuv.red_rounded yuv.green_rounded yuv.blue_rounded yuv.rgb_of
     texels.colour_of texels.decoded_of texels.encoded_of texels.encoded_bytes
-    places.texel_start places.places_at places.places_in places.bytes_at places.texel_in places.inside_all
+    places.place_of places.places_at places.places_in places.bytes_at places.texel_in places.inside_all
     checks.can_convert_update checks.can_convert checks.bad_planar_shape checks.illegal_set checks.is_empty checks.source_inside checks.destination_inside checks.reply_to regions.texel_of regions.texel_at regions.to_at regions.source_texel regions.written regions.row_written regions.slice_written regions.region_written regions.converted_with
     rules.allowed
     offsets.nv12_u offsets.yv12_v offsets.yv12_u offsets.u_offset_at offsets.v_offset_at

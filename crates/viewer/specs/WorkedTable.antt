@@ -29,9 +29,9 @@ pub record Row : Type 0 where
 abbrev row : (printed computed : List ℕ) → Row
 row p c = record { printed = p; computed = c }
 
--- a side from (0, 0) on, of one row and one slice
+-- a side from byte 0 and (0, 0) on, of one row and one slice
 abbrev one_row : (bytes : ℕ) → Side
-one_row n = record { pitch = n; slice_pitch = n; x = 0; y = 0 }
+one_row n = record { start = 0; pitch = pos n; slice_pitch = n; x = 0; y = 0 }
 
 -- a region of one texel, with pitches for its source's and its destination's bytes
 abbrev one_texel : (from to : ℕ) → ConvertRegion

@@ -19,6 +19,7 @@ pub mod fills;
 pub mod lanes;
 pub mod layouts;
 pub mod nearest;
+pub mod pictures;
 pub mod rows;
 pub mod sets;
 pub mod untouched;

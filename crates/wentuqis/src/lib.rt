@@ -76,8 +76,9 @@ pub extern "C" fn wentuqis_can_convert_update(src_format: u32, dst_format: u32) 
     regions::can_convert_update(src_format, dst_format)
 }
 
-/// Converts a region of `src` into `dst`, YUV by `bt601`. Pitches are in bytes, columns and rows in
-/// texels. Refusals 1 to 4.
+/// Converts a region of `src` into `dst`, YUV by `bt601`. Starts and pitches are in bytes, columns
+/// and rows in texels; a row pitch below 0 is that of a picture stored bottom row first. Refusals 1
+/// to 4.
 #[unsafe(no_mangle)]
 pub extern "C" fn wentuqis_convert_region(
     dst: &mut [u8],

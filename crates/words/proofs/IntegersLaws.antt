@@ -3,12 +3,7 @@ use Rattle.std.specs.Prelude.{◌≡◌, refl, Bool, true, false, cond, ◌⊎�
 use Rattle.std.proofs.Common.{◌∙◌, ap, inl, inr, arith, add-mul, zero-mul, suc-mul, div-mul-le_self, ltb-true, ltb-false}
 use Rattle.std.proofs.Math.Nat.{lt-div-mul-add}
 use Rattle.std.proofs.Math.IntN.{sub_ℕ}
-use Rattle.words.specs.Integers.{floor_div, clamp_to}
-
--- z, where it is not below 0, and else 0
-unfoldable pub up : ℤ → ℕ
-up (pos n) = n
-up (negsuc n) = 0
+use Rattle.words.specs.Integers.{floor_div, clamp_to, up}
 
 -- how far z lies below 0
 unfoldable pub dn : ℤ → ℕ

@@ -54,6 +54,18 @@ all_false p (suc n) k lt h =
     (λ same. and_right (all p n) (p n) (rw same at h))
     (lt_or_eq k n lt)
 
+-- two runs of tests where each test of one is a test of the other
+pub all_onto : (p q : ℕ → Bool) (n m : ℕ) → ((k : ℕ) → k < n → (j : ℕ) × (j < m) × (p k ≡ q j)) → ((j : ℕ) → j < m → (k : ℕ) × (k < n) × (q j ≡ p k)) → all p n ≡ all q m
+all_onto p q n m onto back = go (all p n) (all q m) refl refl
+  where
+    go : (a b : Bool) → all p n ≡ a → all q m ≡ b → a ≡ b
+    go true b e g = sym (all_true q m (λ j jl. let h = back j jl in h.2 ∙ all_at p n e h.0 h.1)) ∙ g
+    go false true e g = sym e ∙ all_true p n (λ k kl. let h = onto k kl in h.2 ∙ all_at q m g h.0 h.1)
+    go false false e g = refl
+
+pub all_same : (p q : ℕ → Bool) (n : ℕ) → ((k : ℕ) → k < n → p k ≡ q k) → all p n ≡ all q n
+all_same p q n same = all_onto p q n n (λ k kl. (k, kl, same k kl)) (λ k kl. (k, kl, sym (same k kl)))
+
 -- one turn of a loop
 pub iterate_step : {A : Type 0} (f : ℕ → A → A) (i : ℕ) (a₀ a a' : A) → a ≡ iterate f i a₀ → a' ≡ f i a → a' ≡ iterate f (i + 1) a₀
 iterate_step f i a₀ a a' e e' = e' ∙ ap (f i) e ∙ sym (iterate_more f i a₀)

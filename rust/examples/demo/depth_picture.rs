@@ -39,6 +39,12 @@ impl DepthPicture {
         picture
     }
 
+    /// The same rows as a screen grab has them: bottom row first.
+    pub fn grabbed(&self) -> Vec<u8> {
+        let rows = self.bytes.chunks_exact(self.pitch).rev();
+        rows.flatten().copied().collect()
+    }
+
     /// Bytes of a row behind its pixels.
     pub fn padding(&self) -> usize {
         self.pitch - 4 * WIDTH

@@ -169,7 +169,7 @@ impl Screen {
     /// Converts a frame, by the set of its standard, onto the whole screen.
     pub fn show(&mut self, frame: &Frame) -> Result<(), Refused> {
         let rows = |pitch| Side {
-            pitch,
+            pitch: pitch as i64,
             slice_pitch: pitch * HEIGHT,
             ..Side::default()
         };

@@ -1,5 +1,5 @@
 -- `yuv_rows::pair_run` meets its contract: the words of the pairs are those of the run's texels. Assumes nothing.
-use Rattle.std.proofs.Common.{◌*◌, refl, ap, ◌∙◌, arith, length}
+use Rattle.std.proofs.Common.{◌*◌, ap, ◌∙◌, arith, length}
 use Rattle.words.specs.Iterate.{iterate}
 use Rattle.formats.specs.Formats.{rgb_code, yuv_code}
 use Rattle.formats.proofs.Classified.{yuv_is}
@@ -17,8 +17,8 @@ pub write_pairs-requires : goal.write_pairs-requires
 write_pairs-requires c =
     let g = c.args in
     let spot = c.spot.ensures in
-    let there = same_pair c.pair_places-places.ensures refl refl spot.z spot.y spot.x in (
-      run_inside g.source.set.numbers g.src.now (length g.dst.now) (yuv_code g.source.format) (rgb_code g.dst_format) g.at.region g.at.z g.at.row g.first g.pairs c.requires.0 (yuv_is g.source.format) c.requires.2 c.requires.1 _ there,
+    let there = same_pair g.at.region.source c.pair_places-places.ensures spot.z spot.y spot.x in (
+      run_inside g.source.set.numbers g.src.now (length g.dst.now) (yuv_code g.source.format) (rgb_code g.dst_format) g.at.region g.at.z g.at.row g.first g.pairs c.requires.0 (yuv_is g.source.format) c.requires.2 c.requires.1 (omega arith) _ there,
       run_ends _ g.at.region g.at.z g.at.row _ _ _ g.first (2 * g.pairs) _ c.requires.0 c.requires.1 c.run_start-to.ensures,
     )
 
@@ -26,7 +26,7 @@ pub returns : goal.returns
 returns c =
     let g = c.args in
     let spot = c.spot.ensures in
-    let there = same_pair c.pair_places-places.ensures refl refl spot.z spot.y spot.x in
-    run_whole g.source.set.numbers g.src.now (length g.dst.now) (yuv_code g.source.format) (rgb_code g.dst_format) g.at.region g.at.z g.at.row g.first g.pairs c.requires.0 (yuv_is g.source.format) c.requires.2 c.requires.1 _ there
+    let there = same_pair g.at.region.source c.pair_places-places.ensures spot.z spot.y spot.x in
+    run_whole g.source.set.numbers g.src.now (length g.dst.now) (yuv_code g.source.format) (rgb_code g.dst_format) g.at.region g.at.z g.at.row g.first g.pairs c.requires.0 (yuv_is g.source.format) c.requires.2 c.requires.1 (omega arith) _ there
     c.run_start-to.result g.dst.now _ c.run_start-to.ensures
-    (c.write_pairs.ensures ∙ ap (λ l. iterate (word_written (run_from l g.src.now c.pair_places-places.result) (rgb_code g.dst_format) c.run_start-to.result) (2 * g.pairs) g.dst.now) c.lines_of-lines.ensures.is)
+    (c.write_pairs.ensures ∙ ap (λ l. iterate (word_written (run_from l g.src.now c.pair_places-places.result) (rgb_code g.dst_format) c.run_start-to.result) (2 * g.pairs) g.dst.now) c.requires.3)

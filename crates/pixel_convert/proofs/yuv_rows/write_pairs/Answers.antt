@@ -52,7 +52,7 @@ loop-done-preserved c =
     let n = c.min-n.result in
     let p = part g.pairs l.done c.min-n.ensures c.loop-done-test.true l.invariant.3 in
     let full : l.done + n ≡ l.done + 32 = omega (arith, c.min-n.ensures) in (
-      subst (λ k. WritesPairs g.lines g.src.now g.first (rgb_code g.dst_format) g.first_to g.dst.now k c.after-at.result c.write_texels-to.new.dst c.write_texels-to.result) full
+      subst (λ k. WritesPairs g.lines.now g.src.now g.first (rgb_code g.dst_format) g.first_to g.dst.now k c.after-at.result c.write_texels-to.new.dst c.write_texels-to.result) full
           (written_more n l.invariant.0 p.words c.read_pairs.ensures (c.read_pairs.auto.block ∙ p.words) c.write_texels-to.ensures c.after-at.ensures),
       c.write_texels-to.auto.dst ∙ l.invariant.1,
       omega arith,
@@ -66,5 +66,5 @@ returns-2 c =
     let n = c.min-n.result in
     let p = part g.pairs l.done c.min-n.ensures c.loop-done-test.true l.invariant.3 in
     let all : l.done + n ≡ g.pairs = omega (arith, c.min-n.ensures) in
-    (subst (λ k. WritesPairs g.lines g.src.now g.first (rgb_code g.dst_format) g.first_to g.dst.now k c.after-at.result c.write_texels-to.new.dst c.write_texels-to.result) all
+    (subst (λ k. WritesPairs g.lines.now g.src.now g.first (rgb_code g.dst_format) g.first_to g.dst.now k c.after-at.result c.write_texels-to.new.dst c.write_texels-to.result) all
     (written_more n l.invariant.0 p.words c.read_pairs.ensures (c.read_pairs.auto.block ∙ p.words) c.write_texels-to.ensures c.after-at.ensures)).bytes
