@@ -246,7 +246,8 @@ typedef struct WentuqisRegion {
 static inline WentuqisSide wentuqis_bottom_up(uint32_t row_bytes, uint32_t rows)
 {
     const uint64_t last = rows == 0 ? 0 : rows - 1;
-    const WentuqisSide side = {row_bytes * last, -(int64_t)row_bytes, 0, 0, 0};
+    const int64_t pitch = row_bytes;
+    const WentuqisSide side = {row_bytes * last, -pitch, 0, 0, 0};
 
     return side;
 }

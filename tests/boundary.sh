@@ -52,7 +52,7 @@ told unused-result 'wentuqis_can_convert(20, 21);'
 
 if command -v c++ >/dev/null; then
     printf '%s\n' '#include "wentuqis.h"' 'WentuqisYuvSet set = WENTUQIS_BT709;' >"$scratch/header.cpp"
-    c++ -Wall -Wextra -Werror -Iinclude -fsyntax-only "$scratch/header.cpp"
+    c++ -Wall -Wextra -Wold-style-cast -Werror -Iinclude -fsyntax-only "$scratch/header.cpp"
 else
     echo 'boundary: there is no C++ compiler (c++): the header was not compiled as C++'
     if [[ -n ${CI:-} ]]; then exit 1; fi

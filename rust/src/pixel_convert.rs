@@ -546,12 +546,15 @@ impl ConvertCall {
         self.hint_at_chroma_rows(f)
     }
 
-    /// Says which slice pitch a planar source needs that has 0.
+    /// Says which slice pitch a planar source needs that has 0, where one makes a frame of it.
     fn explain_slice_pitch(&self, f: &mut fmt::Formatter<'_>) -> fmt::Result {
         let pitch = self.region.src_pitch();
         let mut rows = self.region_end();
         if self.src_format == D3DFMT_YV12 {
             rows = rows.next_multiple_of(2);
+        }
+        if !self.has_layout(rows as usize) {
+            return missing_layout(self.src_format, pitch as usize, 0, f);
         }
         let bytes = i128::from(rows) * pitch;
         write!(
@@ -562,7 +565,7 @@ impl ConvertCall {
     }
 
     /// Says what the slice pitch of a planar source is where it is as long as the whole frame, as if
-    /// it counted the chroma rows.
+    /// it counted the chroma rows, and the luma rows alone make a frame.
     fn hint_at_chroma_rows(&self, f: &mut fmt::Formatter<'_>) -> fmt::Result {
         let (pitch, slice_pitch) = (
             self.region.src_pitch() as u128,
@@ -575,7 +578,10 @@ impl ConvertCall {
         let luma_rows = all_rows * 2 / 3;
         let chroma_rows = luma_rows.div_ceil(2);
         let bytes = luma_rows * pitch;
-        if luma_rows + chroma_rows != all_rows || luma_rows < u128::from(self.region_end()) {
+        if luma_rows + chroma_rows != all_rows
+            || luma_rows < u128::from(self.region_end())
+            || !self.has_layout(luma_rows as usize)
+        {
             return Ok(());
         }
         write!(
@@ -583,6 +589,12 @@ impl ConvertCall {
             "; the slice pitch {slice_pitch} is that of the whole frame, and without the chroma rows \
              it is {pitch} x {luma_rows} = {bytes}"
         )
+    }
+
+    /// Whether a frame of the planar source has its pitch and so many luma rows.
+    fn has_layout(&self, luma_rows: usize) -> bool {
+        let pitch = self.region.src_pitch() as usize;
+        planar_yuv_layout_from_pitch(self.src_format, pitch, luma_rows).is_some()
     }
 
     /// One past the last row of the source that the region has.

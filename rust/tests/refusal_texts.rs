@@ -12,7 +12,9 @@ use wentuqis::format::*;
 use wentuqis::pixel_convert::{
     ConvertRegion, Region, Side, YuvSet, convert, try_convert_region, try_convert_region_with_set,
 };
-use wentuqis::planar_yuv::{try_planar_yuv_layout, try_planar_yuv_layout_from_pitch};
+use wentuqis::planar_yuv::{
+    planar_yuv_layout_from_pitch, try_planar_yuv_layout, try_planar_yuv_layout_from_pitch,
+};
 use wentuqis::{Refusal, Refused};
 
 /// What a refused call says.
@@ -291,6 +293,149 @@ fn slice_pitches_of_planar_frames() {
     for (rows, bytes) in [(2, 24), (4, 42), (5, 36)] {
         assert!(!whole(rows, bytes).contains("chroma rows"), "{rows} rows");
     }
+}
+
+/// The slice pitch that a text names, if it names one.
+fn named_slice_pitch(text: &str) -> Option<usize> {
+    let (_, named) = text.rsplit_once(" = ")?;
+    named.trim_end_matches(" at least").parse().ok()
+}
+
+/// What a conversion from a planar frame of this length says. The slice pitch that it names is
+/// accepted, with a whole frame of it.
+fn planar_text(src_len: usize, format: u32, region: &ConvertRegion) -> String {
+    // the source is looked at first
+    let said = convert_text(4, src_len, format, region);
+    if let Some(named) = named_slice_pitch(&said) {
+        let (pitch, rows) = (region.src_pitch, named / region.src_pitch);
+        let dst_len = region.dst_pitch * region.height as usize;
+        let layout = planar_yuv_layout_from_pitch(format, pitch, rows).expect(&said);
+        let mended = but(*region, |r| r.src_slice_pitch = named);
+        let lens = [layout.total_bytes(), dst_len];
+        assert_eq!(reply(lens, format, &mended), Ok(()), "{said}");
+    }
+    said
+}
+
+/// What a text says of a pitch and luma rows that no frame of this format has.
+fn no_frame(format: u32, pitch: usize, rows: usize) -> String {
+    let name = String::from_utf8(format.to_le_bytes().to_vec()).unwrap();
+    let said = text(try_planar_yuv_layout_from_pitch(format, pitch, rows));
+    let why = said.strip_prefix("no planar layout: ").unwrap();
+    format!("source outside: no frame of {name} has this pitch and slice pitch: {why}")
+}
+
+#[test]
+fn slice_pitches_of_0_in_no_frame() {
+    let (yv12, nv12) = (D3DFMT_YV12, D3DFMT_NV12);
+    let zero = |format, pitch, rows| planar_text(0, format, &region(1, rows, pitch, 4));
+    for (format, pitch, rows, expected) in [
+        (
+            nv12,
+            9,
+            1,
+            "the pitch 9 is odd, and chroma needs an even one",
+        ),
+        (
+            yv12,
+            25,
+            4,
+            "the pitch 25 is odd, and chroma needs an even one",
+        ),
+        (nv12, 16386, 1, "the pitch is 1 to 16384, not 16386"),
+        (
+            yv12,
+            1 << 63,
+            2,
+            "the pitch is 1 to 16384, not 9223372036854775808",
+        ),
+        // a frame has at most 10922 luma rows, with 5461 chroma rows
+        (nv12, 2, 10923, "the luma rows are 1 to 16384, not 0"),
+        (yv12, 2, 10923, "the luma rows are 1 to 16384, not 0"),
+        (nv12, 2, u32::MAX, "the luma rows are 1 to 16384, not 0"),
+    ] {
+        let said = zero(format, pitch, rows);
+        assert!(said.ends_with(expected), "{said}");
+        assert_eq!(said, no_frame(format, pitch, 0));
+    }
+    for format in [yv12, nv12] {
+        assert_eq!(
+            zero(format, 2, 10922),
+            "source outside: the source slice pitch is 0; \
+             set it to pitch x luma rows, 2 x 10922 = 21844 at least"
+        );
+    }
+}
+
+#[test]
+fn slice_pitches_of_whole_frames_that_are_none() {
+    let whole = |format, pitch, all_rows| {
+        let region = but(region(6, 1, pitch, 24), |r| {
+            r.src_slice_pitch = all_rows * pitch;
+        });
+        planar_text(all_rows * pitch, format, &region)
+    };
+    // one luma row and one chroma row
+    let short = "source outside: the frame has 12 bytes, the region needs 18; \
+                 the first texel outside is column 0, row 0";
+    assert_eq!(whole(D3DFMT_YV12, 6, 2), short);
+    assert_eq!(
+        whole(D3DFMT_NV12, 6, 2),
+        format!(
+            "{short}; the slice pitch 12 is that of the whole frame, \
+             and without the chroma rows it is 6 x 1 = 6"
+        )
+    );
+    assert_eq!(
+        whole(D3DFMT_YV12, 6, 5),
+        "source outside: no frame of YV12 has this pitch and slice pitch: \
+         YV12 has an even number of luma rows, not 5"
+    );
+    // two luma rows and one chroma row, of a pitch that no frame has
+    for (format, pitch) in [
+        (D3DFMT_NV12, 9),
+        (D3DFMT_NV12, 16386),
+        (D3DFMT_YV12, 9),
+        (D3DFMT_YV12, 16386),
+    ] {
+        assert_eq!(whole(format, pitch, 3), no_frame(format, pitch, 3));
+    }
+}
+
+#[test]
+fn a_slice_pitch_that_a_text_names_is_accepted() {
+    let mut numbers = Numbers::new(11);
+    let mut counts = [0; 3];
+    for _ in 0..10_000 {
+        let format = [D3DFMT_YV12, D3DFMT_NV12][numbers.below(2) as usize];
+        let (mut pitch, mut rows) = (1 + numbers.below(12), 1 + numbers.below(8));
+        match numbers.below(50) {
+            0 => pitch += 16_374,
+            1 => rows += 10_916,
+            _ => {}
+        }
+        let (pitch, all_rows) = (pitch as usize, numbers.below(2) * numbers.below(16));
+        let region = but(region(1, rows as u32, pitch, 4), |r| {
+            r.src_y = numbers.below(4) as u32;
+            r.src_slice_pitch = pitch * all_rows as usize;
+        });
+        let said = planar_text(region.src_slice_pitch, format, &region);
+        let named = named_slice_pitch(&said).is_some();
+        if all_rows > 0 {
+            counts[0] += usize::from(named);
+            continue;
+        }
+        let mut end = region.src_y as usize + rows as usize;
+        if format == D3DFMT_YV12 {
+            end += end % 2;
+        }
+        let frame = planar_yuv_layout_from_pitch(format, pitch, end).is_some();
+        assert_eq!(named, frame, "{said}");
+        counts[1 + usize::from(named)] += 1;
+        assert!(named || said == no_frame(format, pitch, 0), "{said}");
+    }
+    assert!(counts[0] > 200, "{counts:?} were named");
+    assert!(counts[1..].iter().all(|it| *it > 2_000), "{counts:?}");
 }
 
 #[test]
