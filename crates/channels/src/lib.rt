@@ -30,6 +30,14 @@ pub fn expand<const WIDTH: u32>(v: u16) -> u8
     }
 }
 
+/// The two low bits of a word of 32 as a byte: the bits four times. The bits above them are
+/// dropped.
+pub fn expand2(v: u32) -> u8
+    ensures { result ≡ expanded 2 (v % 4) }
+{
+    expand::<2>((v % 4) as u16)
+}
+
 /// The `WIDTH` top bits of a byte.
 #[tactic(auto, unfolding(crate::specs::Expansion::truncated))]
 pub fn truncate<const WIDTH: u32>(v: u8) -> u16

@@ -21,7 +21,7 @@ use formats::{
 use texels::encode::{encode_a1r5g5b5, encode_a4r4g4b4, encode_a8b8g8r8, encode_r5g6b5};
 
 mod binary16;
-mod colours;
+pub mod colours;
 mod pixel;
 mod splat;
 

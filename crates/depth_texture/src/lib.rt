@@ -16,7 +16,7 @@ mod pixels;
 mod rows;
 
 pub use pictures::{pack, unpack};
-pub use pixels::PackedDepth;
+pub use pixels::{DepthStencil, PackedDepth};
 
 /// Aligned rows of a depth plane and a stencil plane.
 #[derive(Clone, Copy)]

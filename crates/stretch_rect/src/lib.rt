@@ -19,7 +19,7 @@ pub mod parts;
 mod sets;
 mod tables;
 
-pub use sets::{LegalSet, YuvSet, bt601, bt709};
+pub use sets::{LegalSet, YuvSet, bt601, bt709, is_legal};
 pub use tables::yuv_to_rgb8_by_tables;
 
 /// A colour: red, green and blue.
