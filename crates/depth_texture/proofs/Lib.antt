@@ -7,7 +7,6 @@ pub mod PackedFormatsLaws
 pub mod RowLaws
 pub mod AboveInfinity
 pub mod Calls
-pub mod LayoutsLaws
 pub mod PackedFormats
 pub mod PicturesLaws
 pub mod Powers

@@ -46,6 +46,11 @@ pub row_length : (from size width : ℕ) (content : ℕ → List ℕ) (l : List 
 unfolding written_row
 row_length from size width content l = iterate_length (λ x l. sets l (from + x * size) (content x)) (λ x b. length-sets b (from + x * size) (content x)) width l
 
+pub written_length : (pitch size width height : ℕ) (content : ℕ → ℕ → List ℕ) (l : List ℕ) → length (written pitch size width height content l) ≡ length l
+unfolding written
+written_length pitch size width height content l =
+    iterate_length (λ y. written_row (y * pitch) size width (λ x. content x y)) (λ y b. row_length (y * pitch) size width (λ x. content x y) b) height l
+
 module _ (pitch size width height : ℕ) (content : ℕ → ℕ → List ℕ) (sized : (x y : ℕ) → length (content x y) ≡ size) where
   -- ---- each pixel's own bytes, and every other byte
   -- a row keeps a part that lies apart from each of its pixels

@@ -7,8 +7,7 @@ use Rattle.std.specs.Int.Count.{ones, ones_in, ones_step}
 use Rattle.std.proofs.lemmas.Nat.{ones_cat}
 use Rattle.std.proofs.lemmas.Bool.{eqb-false, cases_lt}
 use Rattle.words.proofs.IterateLaws.{all_true, all_false}
-use Rattle.depth_texture.proofs.LayoutsLaws.{PowerOfTwo}
-use Rattle.depth_texture.specs.Layouts.{is_power_of_two}
+use Rattle.depth_texture.specs.Layouts.{PowerOfTwo, is_power_of_two}
 
 -- ---- the test
 below_power : (k : ℕ) → k < 2 ^ k
@@ -59,3 +58,7 @@ counted a = go (eqb (ones a) 1) refl
     go : (t : Bool) → eqb (ones a) 1 ≡ t → t ≡ is_power_of_two a
     go true e = sym (power_tested a (counted_power a (eqb-true (ones a) 1 e)))
     go false e = sym (not_power_tested a (λ p. eqb-false (ones a) 1 e (power_counted a p)))
+
+-- what passes the test is a power of two, as `power_tested` says that each of these passes it
+pub tested_power : (a : ℕ) → is_power_of_two a ≡ true → PowerOfTwo a
+tested_power a h = counted_power a (eqb-true (ones a) 1 (counted a ∙ h))

@@ -1,6 +1,6 @@
 -- Plane layouts: how `PlaneLayout::new` makes one, what it refuses, and what holds of one that stands.
 -- Assumes nothing.
-use Rattle.std.specs.Prelude.{Result, Ok, Err, Bool, not, ◌&&◌, ◌||◌, ℕ, ◌*◌, ◌^◌, ◌≤◌, ◌<◌, max, leb, ltb, eqb}
+use Rattle.std.specs.Prelude.{◌≡◌, Result, Ok, Err, Bool, not, ◌&&◌, ◌||◌, ℕ, ◌*◌, ◌^◌, ◌≤◌, ◌<◌, max, leb, ltb, eqb}
 use Rattle.words.specs.Tests.{pick}
 use Rattle.words.specs.Iterate.{all}
 use Rattle.words.specs.Multiples.{raised, Raised}
@@ -11,6 +11,10 @@ use Rattle.depth_texture.specs.declared.PlaneLayoutRefusal.TheVariants.{ZeroSize
 -- one more than the largest number of 64 bits
 abbrev pub limit : ℕ
 limit = 18446744073709551616
+
+-- a is a power of two
+abbrev pub PowerOfTwo : ℕ → Type 0
+PowerOfTwo a = (k : ℕ) × (a ≡ 2 ^ k)
 
 -- the same as a test of each k below a (Powers joins the two)
 unfoldable pub is_power_of_two : ℕ → Bool

@@ -3,6 +3,7 @@ pub mod InsideLaws
 pub mod Rows
 pub mod PlanarRegions
 pub mod Texel
+pub mod LastTexel
 pub mod Laid
 pub mod ByKind
 pub mod Planar

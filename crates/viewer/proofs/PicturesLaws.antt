@@ -1,4 +1,4 @@
--- Where texels lie, and that the corners of a region decide. Assumes nothing.
+-- Where texels lie, and that the corners of a region decide, or its last texel. Assumes nothing.
 use Rattle.std.specs.Prelude.{◌≡◌, refl, Bool, true, false, ◌||◌, ℕ, ◌+◌, ◌*◌, ◌-◌, ◌/◌, ◌≤◌, ◌<◌}
 use Rattle.std.proofs.Common.{sym, ap, ◌∙◌, ⊎_elim, arith, mul-le-mul_right}
 use Rattle.std.proofs.lemmas.Bool.{false≢true}
@@ -13,10 +13,11 @@ use Rattle.places.specs.declared.Side.{Side}
 use Rattle.places.specs.Places.{place_of, places_in, texel_in, inside_all}
 use Rattle.places.specs.Inside.{bytes_in}
 use Rattle.places.proofs.InsideLaws.{upright, texel_fits, texel_in_places, places_at_planar, lanes_in, packed_in, inside_at}
+use Rattle.places.proofs.LastTexel.{places_lower, texel_lower, last_inside}
 use Rattle.places.proofs.PlanarRegions.{started_in, last_decides}
 use Rattle.places.proofs.Rows.{parts, in_yes, in_parts}
 use Rattle.regions.proofs.Fetch.{kind}
-use Rattle.viewer.specs.Pictures.{UprightByRows, CornersIn, CornersDecide}
+use Rattle.viewer.specs.Pictures.{UprightByRows, CornersIn, CornersDecide, LastDecides}
 
 pub upright_by_rows : UprightByRows
 upright_by_rows = upright
@@ -112,3 +113,11 @@ module _ (len f : ℕ) (side : Side) (width height depth : ℕ) (pw : 0 < width)
 
 pub corners_decide : CornersDecide
 corners_decide len f side width height depth s pw ph pd = (all_corners len f side width height depth pw ph pd, λ k. corners_all len f side width height depth pw ph pd k s)
+
+-- ---- where rows go on
+pub last_decides_all : LastDecides
+last_decides_all = record {
+  places = λ len f pitch side on z y x z' y' x' hz hy hx h. places_lower side pitch on z y x z' y' x' hz hy hx len f h;
+  texel = λ len f pitch side on z y x z' y' x' hz hy hx h. texel_lower side pitch on z y x z' y' x' hz hy hx len f h;
+  region = last_inside;
+}

@@ -1,6 +1,6 @@
 //! Where the texels of a picture lie, and which regions of it are inside.
 
-ghost use Rattle.viewer.specs.Pictures.{UprightByRows, CornersDecide};
+ghost use Rattle.viewer.specs.Pictures.{UprightByRows, CornersDecide, LastDecides};
 
 /// A texel of a picture that starts at byte 0 and whose rows go on starts at the sum of its slices,
 /// rows and columns, each of them times its bytes.
@@ -14,4 +14,11 @@ pub fn upright_texels_lie_by_rows()
 #[tactic(auto, using(crate::proofs::PicturesLaws::corners_decide))]
 pub fn corners_decide()
     ensures { CornersDecide }
+{}
+
+/// Of a picture whose rows go on, in any format, a region that has a texel lies inside just where
+/// its last texel does: a texel is inside wherever one further on in slices, rows and columns is.
+#[tactic(auto, using(crate::proofs::PicturesLaws::last_decides_all))]
+pub fn last_texel_decides()
+    ensures { LastDecides }
 {}

@@ -1,6 +1,7 @@
 -- Laws on what specs/Iterate.antt defines, which rest on laws there. Assumes nothing.
-use Rattle.std.specs.Prelude.{◌≡◌, refl, Bool, true, false, ℕ, zero, suc, ◌+◌, ◌<◌}
-use Rattle.std.proofs.Common.{ap, ◌∙◌, ⊎_elim, arith, not-suc-le-zero, add-suc, add-zero, add-one, List, length, sym, subst}
+use Rattle.std.specs.Prelude.{◌≡◌, refl, Bool, true, false, ℕ, zero, suc, ◌+◌, ◌*◌, ◌/◌, ◌%◌, ◌<◌}
+use Rattle.std.proofs.Common.{ap, ◌∙◌, ⊎_elim, arith, not-suc-le-zero, add-suc, add-zero, add-one, zero-mul, suc-mul, List, length, sym, subst}
+use Rattle.std.proofs.Math.Arith.{digits_div, digits_mod}
 use Rattle.std.proofs.lemmas.Bool.{and_parts, and_right}
 use Rattle.words.proofs.TestsLaws.{lt_or_eq}
 use Rattle.words.specs.Iterate.{iterate, all}
@@ -86,3 +87,15 @@ iterate_makes I P f (suc n) m lt inv make keep a i =
 
 pub iterate_length : {A : Type 0} (f : ℕ → List A → List A) → ((k : ℕ) (l : List A) → length (f k l) ≡ length l) → (n : ℕ) (l : List A) → length (iterate f n l) ≡ length l
 iterate_length f same n l = iterate_keeps (λ m. length m ≡ length l) f n (λ k lt m e. same k m ∙ e) l refl
+
+-- a loop in a loop as one run, whose step n is step n % h of turn n / h
+pub iterate_flat : {A : Type 0} (g : ℕ → ℕ → A → A) (h d : ℕ) (a : A) → iterate (λ z. iterate (g z) h) d a ≡ iterate (λ n. g (n / h) (n % h)) (d * h) a
+unfolding iterate
+iterate_flat g h zero a = rw zero-mul refl
+iterate_flat g h (suc d) a =
+    ap (iterate (g d) h) (iterate_flat g h d a)
+    ∙ sym
+    (ap (λ (n : ℕ). iterate (λ n. g (n / h) (n % h)) n a) (suc-mul d h)
+    ∙ iterate_add (λ n. g (n / h) (n % h)) (d * h) h a
+    ∙ iterate_same (λ k. g ((d * h + k) / h) ((d * h + k) % h)) (g d) h (iterate (λ n. g (n / h) (n % h)) (d * h) a)
+    (λ k l b. rw (digits_div d l, digits_mod d l) refl))
