@@ -130,17 +130,17 @@ fn pair_run(
     src: &[u8],
     source: YuvSource,
     lines: &Lines,
-    at: RegionRow,
+    at: &RegionRow,
     first: usize,
     pairs: usize,
 )
     requires { (RowFits (length src.now) (length dst.old) (yuv_code source.format)
-        (rgb_code dst_format) at.region at.z at.row)
-        × (first + 2 * pairs ≤ at.region.width) × ((at.region.source.x + first) % 2 ≡ 0)
+        (rgb_code dst_format) at.now.region at.now.z at.now.row)
+        × (first + 2 * pairs ≤ at.now.region.width) × ((at.now.region.source.x + first) % 2 ≡ 0)
         × (lines.now ≡ lines_of source.set.numbers) }
     ensures { dst.new
         ≡ run_written source.set.numbers src.now (yuv_code source.format) (rgb_code dst_format)
-        at.region at.z at.row first (2 * pairs) dst.old }
+        at.now.region at.now.z at.now.row first (2 * pairs) dst.old }
 {
     if pairs == 0 {
         return;
@@ -152,23 +152,24 @@ fn pair_run(
 }
 
 // The texel in a column of a row, if it goes alone: `count`, 0 or 1, says how many are written
-// there.
+// there. A row without one hands nothing on, since this is inlined and `write_texel` is not.
+#[inline(always)]
 #[tactic(auto, using(crate::proofs::RunsLaws::run_none, crate::proofs::RunsLaws::run_one))]
 fn lone_texel(
     dst: &mut [u8],
     dst_format: RgbFormat,
     src: &[u8],
-    source: YuvSource,
-    at: RegionRow,
+    source: &YuvSource,
+    at: &RegionRow,
     column: usize,
     count: usize,
 )
-    requires { (RowFits (length src.now) (length dst.old) (yuv_code source.format)
-        (rgb_code dst_format) at.region at.z at.row)
-        × (column + count ≤ at.region.width) × (count ≤ 1) }
+    requires { (RowFits (length src.now) (length dst.old) (yuv_code source.now.format)
+        (rgb_code dst_format) at.now.region at.now.z at.now.row)
+        × (column + count ≤ at.now.region.width) × (count ≤ 1) }
     ensures { dst.new
-        ≡ run_written source.set.numbers src.now (yuv_code source.format) (rgb_code dst_format)
-        at.region at.z at.row column count dst.old }
+        ≡ run_written source.now.set.numbers src.now (yuv_code source.now.format) (rgb_code dst_format)
+        at.now.region at.now.z at.now.row column count dst.old }
 {
     if count == 1 {
         yuv_texels::write_texel(dst, dst_format, src, source, at, column);
@@ -198,7 +199,7 @@ pub(crate) fn yuv_row(
     let lead = at.region.source.x as usize % 2;
     let pairs = (width - lead) / 2;
     let done = lead + 2 * pairs;
-    lone_texel(dst, dst_format, src, source, at, 0, lead);
-    pair_run(block, dst, dst_format, src, source, lines, at, lead, pairs);
-    lone_texel(dst, dst_format, src, source, at, done, width - done);
+    lone_texel(dst, dst_format, src, &source, &at, 0, lead);
+    pair_run(block, dst, dst_format, src, source, lines, &at, lead, pairs);
+    lone_texel(dst, dst_format, src, &source, &at, done, width - done);
 }

@@ -57,13 +57,13 @@ fn fetch_packed(set: LegalSet, macropixel: &[u8], format: PackedYuv, x: usize) -
 
 /// The byte of the destination at which column `first` of a row starts.
 #[tactic(auto, using(regions::proofs::RowOffsetsLaws::offset_is), unfolding(regions::specs::Regions::to_at))]
-pub fn run_start(dst_format: RgbFormat, at: RegionRow, first: usize) -> usize
-    requires { (at.z * at.region.destination.slice_pitch < 2 ^ 64)
-        × (at.region.destination.y + at.row ≤ 4294967295)
-        × (at.region.destination.x + first ≤ 4294967295)
-        × FitsUnsigned w64 (place_of at.region.destination (bytes_of (rgb_code dst_format)) at.z
-        (at.region.destination.y + at.row) (at.region.destination.x + first)) }
-    ensures { result ≡ to_at (rgb_code dst_format) at.region at.z at.row first }
+pub fn run_start(dst_format: RgbFormat, at: &RegionRow, first: usize) -> usize
+    requires { (at.now.z * at.now.region.destination.slice_pitch < 2 ^ 64)
+        × (at.now.region.destination.y + at.now.row ≤ 4294967295)
+        × (at.now.region.destination.x + first ≤ 4294967295)
+        × FitsUnsigned w64 (place_of at.now.region.destination (bytes_of (rgb_code dst_format)) at.now.z
+        (at.now.region.destination.y + at.now.row) (at.now.region.destination.x + first)) }
+    ensures { result ≡ to_at (rgb_code dst_format) at.now.region at.now.z at.now.row first }
 {
     let side = &at.region.destination;
     side.start_of(dst_format.bytes_per_texel(), side.spot(at.z, at.row, first))
@@ -72,12 +72,12 @@ pub fn run_start(dst_format: RgbFormat, at: RegionRow, first: usize) -> usize
 // A texel that lies in its source. A planar source has a layout then, which starts at the side's
 // start.
 #[tactic(auto, using(crate::proofs::Fetched::packed_fits, places::proofs::ByKind::texel_laid, crate::proofs::Fetched::frame_in))]
-fn fetch(source: YuvSource, src: &[u8], side: &Side, at: Spot) -> Texel
-    requires { (places_in (length src.now) (places_at (yuv_code source.format) side.now at.z at.y
+fn fetch(source: &YuvSource, src: &[u8], side: &Side, at: Spot) -> Texel
+    requires { (places_in (length src.now) (places_at (yuv_code source.now.format) side.now at.z at.y
         at.x) ≡ true)
         × (at.z * side.now.slice_pitch < 2 ^ 64) }
     ensures { result
-        ≡ texel_at source.set.numbers src.now (yuv_code source.format) side.now at.z at.y at.x }
+        ≡ texel_at source.now.set.numbers src.now (yuv_code source.now.format) side.now at.z at.y at.x }
 {
     match source.format {
         YuvFormat::Packed(packed) => {
@@ -100,20 +100,21 @@ fn fetch(source: YuvSource, src: &[u8], side: &Side, at: Spot) -> Texel
 }
 
 /// Converts the texel in a column of a row of YUV.
+#[inline(never)]
 pub fn write_texel(
     dst: &mut [u8],
     dst_format: RgbFormat,
     src: &[u8],
-    source: YuvSource,
-    at: RegionRow,
+    source: &YuvSource,
+    at: &RegionRow,
     column: usize,
 )
-    requires { (RowFits (length src.now) (length dst.old) (yuv_code source.format)
-        (rgb_code dst_format) at.region at.z at.row)
-        × (column < at.region.width) }
+    requires { (RowFits (length src.now) (length dst.old) (yuv_code source.now.format)
+        (rgb_code dst_format) at.now.region at.now.z at.now.row)
+        × (column < at.now.region.width) }
     ensures { dst.new
-        ≡ written source.set.numbers src.now (yuv_code source.format) (rgb_code dst_format)
-        at.region at.z at.row column dst.old }
+        ≡ written source.now.set.numbers src.now (yuv_code source.now.format) (rgb_code dst_format)
+        at.now.region at.now.z at.now.row column dst.old }
 {
     let side = &at.region.source;
     let texel = fetch(source, src, side, side.spot(at.z, at.row, column));

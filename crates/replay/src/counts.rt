@@ -13,7 +13,8 @@ pub(crate) struct Outcome {
     pub differs: bool,
 }
 
-/// How many cases of a call there are, how many of them are refused, and how many differ.
+/// How many cases of a call there are, how many of them are refused, and how many differ, each held
+/// at a million.
 #[derive(Clone, Copy, Default)]
 pub(crate) struct Count {
     /// Cases.
@@ -24,11 +25,23 @@ pub(crate) struct Count {
     pub differ: u64,
 }
 
+// Where a count is held.
+const MOST: u64 = 1_000_000;
+
+// A count with one more that `counts`.
+fn one_more(count: u64, counts: bool) -> u64 {
+    if counts && count < MOST {
+        count + 1
+    } else {
+        count
+    }
+}
+
 impl Count {
     fn add(&mut self, outcome: Outcome) {
-        self.cases = self.cases.saturating_add(1);
-        self.refused = self.refused.saturating_add(u64::from(outcome.is_refused));
-        self.differ = self.differ.saturating_add(u64::from(outcome.differs));
+        self.cases = one_more(self.cases, true);
+        self.refused = one_more(self.refused, outcome.is_refused);
+        self.differ = one_more(self.differ, outcome.differs);
     }
 }
 

@@ -13,34 +13,57 @@ mod record;
 mod values;
 mod vectors;
 
-ghost use Rattle.std.specs.Prelude.{◌<◌, ◌^◌};
+ghost use Rattle.std.specs.Prelude.{◌<◌, ◌≤◌, ◌^◌, length, IfOk};
 
 use buffers::Buffers;
 use call::Call;
 use counts::Counts;
 use record::Records;
-use std::io::{ErrorKind, Read};
+use std::io::Read;
 use std::rt::Files;
 use std::{fs, io};
 use values::Values;
 use vectors::Vectors;
 
-// Adds each record of the file to the counts, a record a read. Bytes at its end that are no whole
-// record are left out.
+// How many bytes are read at a time, a whole number of records of each size, and how many times: a
+// file is read to its end or up to 64 MiB.
+const BLOCK: usize = 65536;
+
+const BLOCKS: usize = 1024;
+
+// Reads until the buffer is full or the file ends, and says how many bytes at its start were read.
+fn read_full(file: &mut impl Read, buffer: &mut [u8]) -> io::Result<usize>
+    ensures { IfOk result (λ n. n ≤ length buffer.new) }
+{
+    let mut done = 0;
+    while done < buffer.len() {
+        let n = file.read(&mut buffer[done..])?;
+        if n == 0 {
+            break;
+        }
+        done += n;
+    }
+    Ok(done)
+}
+
+// Adds each record of the file to the counts. Bytes at its end that are no whole record are left
+// out.
 fn replay_file<const SIZE: usize, R: Records<SIZE>>(
     file: &mut impl Read,
     records: R,
     counts: &mut Counts,
 ) -> io::Result<()>
-    requires { SIZE < 2 ^ 63 }
+    requires { (0 < SIZE) × (SIZE < 2 ^ 63) }
 {
-    let mut record = [0; SIZE];
-    // A range, since each loop is proved to end.
-    for _ in 0..u64::MAX {
-        match file.read_exact(&mut record) {
-            Ok(()) => counts.add(records.outcome(&record)),
-            Err(error) if error.kind() == ErrorKind::UnexpectedEof => break,
-            Err(error) => return Err(error),
+    let mut block = [0; BLOCK];
+    for _ in 0..BLOCKS {
+        let n = read_full(file, &mut block)?;
+        if n == 0 {
+            break;
+        }
+        let (whole, _) = block[..n].as_chunks::<SIZE>();
+        for record in whole {
+            counts.add(records.outcome(record));
         }
     }
     Ok(())
@@ -53,7 +76,7 @@ fn replay<const SIZE: usize, R: Records<SIZE>>(
     records: R,
     counts: &mut Counts,
 ) -> io::Result<()>
-    requires { SIZE < 2 ^ 63 }
+    requires { (0 < SIZE) × (SIZE < 2 ^ 63) }
 {
     match fs::open(rt, path) {
         Ok(mut file) => replay_file(&mut file, records, counts),

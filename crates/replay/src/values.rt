@@ -128,17 +128,17 @@ fn plane_layout(record: Record<'_, 64>) -> bool {
     same_layout(record, numbers)
 }
 
-// The answer is the pixel's bytes, zeros up to 16, and their number; all zeros where there is no
-// fill.
+// The answer is the pixel's bytes, zeros up to 16, and their number in 32 bits; all zeros where
+// there is no fill.
 fn d3dcolor_fill_pixel_bytes(record: Record<'_, 64>) -> bool {
     let answer = record.answer();
+    let length = record.number(5);
     match convert::d3dcolor_fill_pixel_bytes(record.number(0), record.number(1)) {
         Ok(pixel) => {
             let bytes = pixel.bytes;
-            let same = bytes[..] == answer[..16] && pixel.length as u64 == record.long(5);
-            !record.is_refused() && same
+            !record.is_refused() && bytes[..] == answer[..16] && pixel.length == length
         }
-        Err(_) => record.is_refused() && *answer == [0; 32],
+        Err(_) => record.is_refused() && answer[..16] == [0; 16] && length == 0,
     }
 }
 

@@ -18,13 +18,19 @@ impl Records<16> for Vectors {
             call,
             // None of these calls refuses: the word after the call's number is an argument.
             is_refused: false,
-            differs: call.and_then(|call| answer(call, a, b)) != Some(expected),
+            differs: call
+                .and_then(|call| answer(call, a, b))
+                .unwrap_or(NO_ANSWER)
+                != expected,
         }
     }
 }
 
-// What this library computes, or `None` for a call whose records are in another file, and for
-// arguments that it does not take.
+// What stands for the answer where there is none: it is no byte, code or pitch.
+const NO_ANSWER: u32 = u32::MAX;
+
+// What this library computes, or `None` for a call whose records are in another file, and for a
+// scale that is not recorded. A width is reduced to those that have a pitch, and zero.
 fn answer(call: Call, a: u32, b: u32) -> Option<u32> {
     let [byte, green, red, _] = a.to_le_bytes();
     let word = u16::from_le_bytes([byte, green]);
@@ -42,7 +48,7 @@ fn answer(call: Call, a: u32, b: u32) -> Option<u32> {
         Call::Unorm8ToUnorm16 => channels::unorm8_to_unorm16(byte).into(),
         Call::Unorm16ToUnorm8 => channels::unorm16_to_unorm8(word).into(),
         Call::F32ToUnorm8 => channels::f32_to_unorm8(a).into(),
-        Call::LinearRowPitch if a <= formats::MAX_TEXTURE_DIM => formats::linear_row_pitch(a),
+        Call::LinearRowPitch => formats::linear_row_pitch(a % (formats::MAX_TEXTURE_DIM + 1)),
         Call::BytesPerTexel => return u32::try_from(formats::bytes_per_texel(a)).ok(),
         Call::NearestByte => return nearest_byte(a, b),
         _ => return None,
@@ -61,7 +67,7 @@ fn nearest_code(channel: u8, max: u32) -> Option<u32> {
 // The nearest byte, by the function of its scale, for the scales that are recorded.
 fn nearest_byte(code: u32, max: u32) -> Option<u32> {
     let byte = match max {
-        3 => channels::expand::<2>((code % 4) as u16),
+        3 => channels::expand2(code),
         1023 => channels::unorm10_to_unorm8(code),
         127 => channels::snorm8_to_unorm8(code),
         _ => return None,

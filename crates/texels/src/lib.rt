@@ -128,7 +128,12 @@ fn decode_x8b8g8r8(v: u32) -> Texel
 fn decode_l8(v: u8) -> Texel
     ensures { result ≡ decoded_of L8 v }
 {
-    Texel::grey(v, 0xff)
+    Texel {
+        r: v,
+        g: v,
+        b: v,
+        a: 0xff,
+    }
 }
 
 fn decode_a8l8(v: u16) -> Texel
@@ -183,7 +188,13 @@ fn decode_g16r16(v: u32) -> Texel
 fn decode_l16(v: u16) -> Texel
     ensures { result ≡ decoded_of L16 v }
 {
-    Texel::grey(channels::unorm16_to_unorm8(v), 0xff) // L16 has no alpha
+    let l = channels::unorm16_to_unorm8(v);
+    Texel {
+        r: l,
+        g: l,
+        b: l,
+        a: 0xff, // L16 has no alpha
+    }
 }
 
 fn decode_v8u8(v: u16) -> Texel

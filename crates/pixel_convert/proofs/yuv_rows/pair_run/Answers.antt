@@ -17,16 +17,16 @@ pub write_pairs-requires : goal.write_pairs-requires
 write_pairs-requires c =
     let g = c.args in
     let spot = c.spot.ensures in
-    let there = same_pair g.at.region.source c.pair_places-places.ensures spot.z spot.y spot.x in (
-      run_inside g.source.set.numbers g.src.now (length g.dst.now) (yuv_code g.source.format) (rgb_code g.dst_format) g.at.region g.at.z g.at.row g.first g.pairs c.requires.0 (yuv_is g.source.format) c.requires.2 c.requires.1 (omega arith) _ there,
-      run_ends _ g.at.region g.at.z g.at.row _ _ _ g.first (2 * g.pairs) _ c.requires.0 c.requires.1 c.run_start-to.ensures,
+    let there = same_pair g.at.now.region.source c.pair_places-places.ensures spot.z spot.y spot.x in (
+      run_inside g.source.set.numbers g.src.now (length g.dst.now) (yuv_code g.source.format) (rgb_code g.dst_format) g.at.now.region g.at.now.z g.at.now.row g.first g.pairs c.requires.0 (yuv_is g.source.format) c.requires.2 c.requires.1 (omega arith) _ there,
+      run_ends _ g.at.now.region g.at.now.z g.at.now.row _ _ _ g.first (2 * g.pairs) _ c.requires.0 c.requires.1 c.run_start-to.ensures,
     )
 
 pub returns : goal.returns
 returns c =
     let g = c.args in
     let spot = c.spot.ensures in
-    let there = same_pair g.at.region.source c.pair_places-places.ensures spot.z spot.y spot.x in
-    run_whole g.source.set.numbers g.src.now (length g.dst.now) (yuv_code g.source.format) (rgb_code g.dst_format) g.at.region g.at.z g.at.row g.first g.pairs c.requires.0 (yuv_is g.source.format) c.requires.2 c.requires.1 (omega arith) _ there
+    let there = same_pair g.at.now.region.source c.pair_places-places.ensures spot.z spot.y spot.x in
+    run_whole g.source.set.numbers g.src.now (length g.dst.now) (yuv_code g.source.format) (rgb_code g.dst_format) g.at.now.region g.at.now.z g.at.now.row g.first g.pairs c.requires.0 (yuv_is g.source.format) c.requires.2 c.requires.1 (omega arith) _ there
     c.run_start-to.result g.dst.now _ c.run_start-to.ensures
     (c.write_pairs.ensures ∙ ap (λ l. iterate (word_written (run_from l g.src.now c.pair_places-places.result) (rgb_code g.dst_format) c.run_start-to.result) (2 * g.pairs) g.dst.now) c.requires.3)

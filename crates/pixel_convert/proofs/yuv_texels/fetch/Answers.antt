@@ -13,22 +13,22 @@ use Rattle.pixel_convert.proofs.yuv_texels.fetch.Goals as goal
 pub start_of-macropixel-requires : goal.start_of-macropixel-requires
 start_of-macropixel-requires c =
     let g = c.args in
-    (packed_fits g.src.now g.source.format g.side.now g.at.z g.at.y g.at.x c.requires.0 c.in-Packed.packed c.in-Packed.is (search rules), c.requires.1)
+    (packed_fits g.src.now g.source.now.format g.side.now g.at.z g.at.y g.at.x c.requires.0 c.in-Packed.packed c.in-Packed.is (search rules), c.requires.1)
 
 pub slice_bounds-fetch_packed-count : goal.slice_bounds-fetch_packed-count
 slice_bounds-fetch_packed-count c =
     let g = c.args in
-    omega (arith, (packed_at g.src.now g.source.format g.side.now g.at.z g.at.y g.at.x c.requires.0 c.in-Packed.packed c.in-Packed.is _ c.start_of-macropixel.ensures).end)
+    omega (arith, (packed_at g.src.now g.source.now.format g.side.now g.at.z g.at.y g.at.x c.requires.0 c.in-Packed.packed c.in-Packed.is _ c.start_of-macropixel.ensures).end)
 
 pub slice_bounds-fetch_packed-start : goal.slice_bounds-fetch_packed-start
 slice_bounds-fetch_packed-start c =
     let g = c.args in
-    omega (arith, (packed_at g.src.now g.source.format g.side.now g.at.z g.at.y g.at.x c.requires.0 c.in-Packed.packed c.in-Packed.is _ c.start_of-macropixel.ensures).end)
+    omega (arith, (packed_at g.src.now g.source.now.format g.side.now g.at.z g.at.y g.at.x c.requires.0 c.in-Packed.packed c.in-Packed.is _ c.start_of-macropixel.ensures).end)
 
 pub fetch_packed-requires : goal.fetch_packed-requires
 fetch_packed-requires c =
     let g = c.args in
-    let i = packed_at g.src.now g.source.format g.side.now g.at.z g.at.y g.at.x c.requires.0 c.in-Packed.packed c.in-Packed.is _ c.start_of-macropixel.ensures in
+    let i = packed_at g.src.now g.source.now.format g.side.now g.at.z g.at.y g.at.x c.requires.0 c.in-Packed.packed c.in-Packed.is _ c.start_of-macropixel.ensures in
     rw (take_rest g.src.now c.start_of-macropixel.result) (omega (arith, length-drop c.start_of-macropixel.result g.src.now, i.end))
 
 pub fetch_planar-requires : goal.fetch_planar-requires
@@ -36,13 +36,13 @@ fetch_planar-requires c =
     let g = c.args in
     let is = sym (ap reply_of c.unwrap-layout.ensures) ∙ c.layout_in_slice.ensures in (
       layout_legal 0 _ _ _ 0 0 _ is,
-      rw (take_rest g.src.now g.side.now.start, length-drop g.side.now.start g.src.now) (frame_has g.src.now g.source.format g.side.now g.at.z g.at.y g.at.x c.in-Planar.planar c.in-Planar.is _ is c.requires.0),
+      rw (take_rest g.src.now g.side.now.start, length-drop g.side.now.start g.src.now) (frame_has g.src.now g.source.now.format g.side.now g.at.z g.at.y g.at.x c.in-Planar.planar c.in-Planar.is _ is c.requires.0),
     )
 
 pub returns-in-Packed : goal.returns-in-Packed
 returns-in-Packed c =
     let g = c.args in
-    c.fetch_packed.ensures ∙ packed_fetched g.src.now g.source.format g.side.now g.at.z g.at.y g.at.x c.requires.0 c.in-Packed.packed c.in-Packed.is _ _ c.start_of-macropixel.ensures
+    c.fetch_packed.ensures ∙ packed_fetched g.src.now g.source.now.format g.side.now g.at.z g.at.y g.at.x c.requires.0 c.in-Packed.packed c.in-Packed.is _ _ c.start_of-macropixel.ensures
 
 pub returns-in-Planar : goal.returns-in-Planar
 returns-in-Planar c =
@@ -51,5 +51,5 @@ returns-in-Planar c =
     let is = sym (ap reply_of c.unwrap-layout.ensures) ∙ c.layout_in_slice.ensures in
     let code = planar_yuv_code c.in-Planar.planar in
     c.fetch_planar.ensures
-    ∙ ap (λ m. texel_of g.source.set.numbers code (eqb (g.at.x % 2) 1) (bytes_at m (layout_places code l.pitch l.luma_rows g.at.y g.at.x))) (take_rest g.src.now g.side.now.start)
-    ∙ planar_fetched g.src.now g.source.format g.side.now g.at.z g.at.y g.at.x c.in-Planar.planar c.in-Planar.is l is g.source.set.numbers
+    ∙ ap (λ m. texel_of g.source.now.set.numbers code (eqb (g.at.x % 2) 1) (bytes_at m (layout_places code l.pitch l.luma_rows g.at.y g.at.x))) (take_rest g.src.now g.side.now.start)
+    ∙ planar_fetched g.src.now g.source.now.format g.side.now g.at.z g.at.y g.at.x c.in-Planar.planar c.in-Planar.is l is g.source.now.set.numbers

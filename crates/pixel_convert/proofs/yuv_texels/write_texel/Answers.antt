@@ -10,4 +10,4 @@ returns c =
     let g = c.args in
     let spot = c.spot.ensures in
     texel_back g.dst.now (rgb_code g.dst_format) c.run_start-to.result c.fetch-texel.result _ (omega (arith, (c.requires.0.destination g.column c.requires.1).end, c.run_start-to.ensures)) c.encode_rgb_pixel.ensures
-    ∙ column_put g.src.now (rgb_code g.dst_format) g.source.format g.at.region g.at.z g.at.row _ _ spot.z spot.y _ _ g.column _ _ g.dst.now spot.x c.fetch-texel.ensures c.run_start-to.ensures
+    ∙ column_put g.src.now (rgb_code g.dst_format) g.source.now.format g.at.now.region g.at.now.z g.at.now.row _ _ spot.z spot.y _ _ g.column _ _ g.dst.now spot.x c.fetch-texel.ensures c.run_start-to.ensures
