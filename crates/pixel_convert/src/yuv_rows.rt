@@ -168,8 +168,8 @@ fn lone_texel(
         (rgb_code dst_format) at.now.region at.now.z at.now.row)
         × (column + count ≤ at.now.region.width) × (count ≤ 1) }
     ensures { dst.new
-        ≡ run_written source.now.set.numbers src.now (yuv_code source.now.format) (rgb_code dst_format)
-        at.now.region at.now.z at.now.row column count dst.old }
+        ≡ run_written source.now.set.numbers src.now (yuv_code source.now.format)
+        (rgb_code dst_format) at.now.region at.now.z at.now.row column count dst.old }
 {
     if count == 1 {
         yuv_texels::write_texel(dst, dst_format, src, source, at, column);

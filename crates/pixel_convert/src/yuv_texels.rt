@@ -61,8 +61,9 @@ pub fn run_start(dst_format: RgbFormat, at: &RegionRow, first: usize) -> usize
     requires { (at.now.z * at.now.region.destination.slice_pitch < 2 ^ 64)
         × (at.now.region.destination.y + at.now.row ≤ 4294967295)
         × (at.now.region.destination.x + first ≤ 4294967295)
-        × FitsUnsigned w64 (place_of at.now.region.destination (bytes_of (rgb_code dst_format)) at.now.z
-        (at.now.region.destination.y + at.now.row) (at.now.region.destination.x + first)) }
+        × FitsUnsigned w64 (place_of at.now.region.destination (bytes_of (rgb_code dst_format))
+        at.now.z (at.now.region.destination.y + at.now.row)
+        (at.now.region.destination.x + first)) }
     ensures { result ≡ to_at (rgb_code dst_format) at.now.region at.now.z at.now.row first }
 {
     let side = &at.region.destination;
@@ -73,11 +74,12 @@ pub fn run_start(dst_format: RgbFormat, at: &RegionRow, first: usize) -> usize
 // start.
 #[tactic(auto, using(crate::proofs::Fetched::packed_fits, places::proofs::ByKind::texel_laid, crate::proofs::Fetched::frame_in))]
 fn fetch(source: &YuvSource, src: &[u8], side: &Side, at: Spot) -> Texel
-    requires { (places_in (length src.now) (places_at (yuv_code source.now.format) side.now at.z at.y
-        at.x) ≡ true)
+    requires { (places_in (length src.now) (places_at (yuv_code source.now.format) side.now at.z
+        at.y at.x) ≡ true)
         × (at.z * side.now.slice_pitch < 2 ^ 64) }
     ensures { result
-        ≡ texel_at source.now.set.numbers src.now (yuv_code source.now.format) side.now at.z at.y at.x }
+        ≡ texel_at source.now.set.numbers src.now (yuv_code source.now.format) side.now at.z at.y
+        at.x }
 {
     match source.format {
         YuvFormat::Packed(packed) => {
