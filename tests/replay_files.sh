@@ -1,7 +1,7 @@
 #!/usr/bin/env bash
 # Files of records that nothing recorded, as the program `replay` counts them: a count is held at a million, a file is read up
-# to 64 MiB, bytes behind the last whole record are left out, a width past 16384 is taken modulo 16385, a call that is not of
-# the file and a scale that is not recorded have the answer ffffffff, and of a fill 32 bits of length are compared.
+# to 64 MiB, bytes behind the last whole record are left out, a width past 16384 is taken modulo 16385, in `vectors` a call that
+# is not of the file and a scale that is not recorded have the answer ffffffff, and of a fill 32 bits of length are compared.
 # usage: tests/replay_files.sh PROGRAM    (crates/replay/out/replay, as `rt ci` or `rt run` leaves it)
 set -euo pipefail
 

@@ -22,14 +22,14 @@ returns-then-width-eq0 c =
 pub returns-then-not-is_power_of_two : goal.returns-then-not-is_power_of_two
 returns-then-not-is_power_of_two c =
     let a = c.args in
-    let unit = c.max-unit.ensures in
+    let unit : c.max-unit.result ≡ max a.alignment 4 = omega (arith, c.max-unit.ensures) in
     no_power a.width a.height a.alignment c.if-width-eq0.false c.if-height-eq0.false
     (tested a.alignment unit c.is_power_of_two.ensures c.if-not-is_power_of_two.true)
 
 pub returns-then-not-planes_fit : goal.returns-then-not-planes_fit
 returns-then-not-planes_fit c =
     let a = c.args in
-    let unit = c.max-unit.ensures in
+    let unit : c.max-unit.result ≡ max a.alignment 4 = omega (arith, c.max-unit.ensures) in
     let d = c.next_multiple_of-depth_pitch in
     let s = c.next_multiple_of-stencil_pitch in
     over a.width a.height a.alignment c.if-width-eq0.false c.if-height-eq0.false (tested a.alignment unit c.is_power_of_two.ensures c.if-not-is_power_of_two.false) d.result s.result
@@ -40,7 +40,7 @@ returns-then-not-planes_fit c =
 pub returns : goal.returns
 returns c =
     let a = c.args in
-    let unit = c.max-unit.ensures in
+    let unit : c.max-unit.result ≡ max a.alignment 4 = omega (arith, c.max-unit.ensures) in
     let d = c.next_multiple_of-depth_pitch in
     let s = c.next_multiple_of-stencil_pitch in
     made a.width a.height a.alignment c.if-width-eq0.false c.if-height-eq0.false (tested a.alignment unit c.is_power_of_two.ensures c.if-not-is_power_of_two.false) d.result s.result
